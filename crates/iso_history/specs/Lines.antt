@@ -1,0 +1,38 @@
+-- Open statements.
+use Rattle.std.specs.Prelude.{ℕ, Some, None, Option}
+use Rattle.iso_history.specs.World.{at_conn}
+use Rattle.iso_history.specs.declared.Act.{Act}
+use Rattle.iso_history.specs.declared.Act.TheVariants.{Commit, Dispatch, Reply, Rollback}
+use Rattle.iso_history.specs.declared.Who.{Who}
+use Rattle.iso_history.specs.declared.Who.TheVariants.{Agent, Dispatcher}
+use Rattle.iso_types.specs.declared.value.Conn.{Conn}
+
+-- what an entry does to open statements: a statement is open from its Dispatch to the next Reply, Commit, Rollback or Ended
+pub data Stage : Type 0 where
+  Goes : Stage
+  Opens : (conn : Conn) → (line : ℕ) → Stage
+  Shuts : (conn : Conn) → Stage
+
+-- Reply, Commit, Rollback and Ended shut it
+abbrev pub stage_of_agent : Conn → Act → Stage
+stage_of_agent c (Reply code changed rows) = Shuts c
+stage_of_agent c Commit = Shuts c
+stage_of_agent c (Rollback code reason) = Shuts c
+stage_of_agent c Act.Ended = Shuts c
+stage_of_agent c _ = Goes
+
+-- a Dispatch opens it
+abbrev pub stage_of_dispatcher : Act → Stage
+stage_of_dispatcher (Dispatch line c) = Opens c line
+stage_of_dispatcher _ = Goes
+
+-- what an entry does to open statements
+abbrev pub stage_of : Who → Act → Stage
+stage_of Dispatcher a = stage_of_dispatcher a
+stage_of (Agent c) a = stage_of_agent c a
+
+-- the line of each open statement
+abbrev pub line_by : (Conn → Option ℕ) → Stage → Conn → Option ℕ
+line_by f Goes = f
+line_by f (Opens c line) = at_conn f c (Some line)
+line_by f (Shuts c) = at_conn f c None

@@ -1,0 +1,5 @@
+pub mod Text
+pub mod Value
+pub mod Ids
+pub mod Head
+pub mod Filled

@@ -1,0 +1,117 @@
+ghost use Rattle.std.specs.Prelude.{◌≡◌, ◌*◌, ◌≤◌};
+ghost use Rattle.iso_types.specs.Head.{lock_slots, lock_share};
+
+use crate::items::Items;
+use crate::row::Row;
+use crate::text::Text;
+use crate::value::{TableId, Value};
+
+/// An isolation level. Db2 LUW, 'Isolation levels'.
+#[derive(Clone, Copy, PartialEq, Eq)]
+pub enum Isolation {
+    Ur,
+    Cs,
+    Rs,
+    Rr,
+}
+
+/// The type of a column: signed 32 bits, signed 64 bits, or a text of at most so many bytes (1 to 32).
+#[derive(Clone, Copy, PartialEq, Eq)]
+pub enum ColumnKind {
+    Integer,
+    Bigint,
+    Varchar(u8),
+}
+
+/// A column; a required one is NOT NULL.
+#[derive(Drop)]
+pub struct Column {
+    pub name: Text,
+    pub kind: ColumnKind,
+    pub required: bool,
+}
+
+/// A declared table: 1 to 8 columns.
+#[derive(Drop)]
+pub struct TableDef {
+    pub name: Text,
+    pub columns: Items<Column>,
+}
+
+/// A declared index on one required column of its table, by the column's place.
+#[derive(Drop)]
+pub struct IndexDef {
+    pub name: Text,
+    pub table: TableId,
+    pub column: u8,
+    pub unique: bool,
+}
+
+/// A declared connection with the level of its CONNECT line.
+#[derive(Drop)]
+pub struct ConnDef {
+    pub name: Text,
+    pub isolation: Isolation,
+}
+
+/// The settings of a script: CUR_COMMIT, LOCKLIST in pages, MAXLOCKS in percent, LOGMAX and WINDOW in records.
+/// Db2 LUW, 'cur_commit', 'locklist', 'maxlocks' configuration parameters; the units of LOGMAX and WINDOW are this project's own.
+#[derive(Clone, Copy)]
+pub struct Config {
+    pub cur_commit: bool,
+    pub locklist: u32,
+    pub maxlocks: u32,
+    pub logmax: u32,
+    pub window: u32,
+}
+
+/// A row that a table has from the start.
+#[derive(Drop)]
+pub struct FirstRow {
+    pub table: TableId,
+    pub row: Row,
+}
+
+/// All that the head lines of a script declare.
+#[derive(Drop)]
+pub struct Head {
+    pub config: Config,
+    pub tables: Items<TableDef>,
+    pub indexes: Items<IndexDef>,
+    pub rows: Items<FirstRow>,
+    pub conns: Items<ConnDef>,
+}
+
+/// A bound of a range.
+#[derive(Clone, Copy)]
+pub struct Edge {
+    pub value: Value,
+    pub inclusive: bool,
+}
+
+/// The keys between two bounds; a bound that is absent bounds nothing.
+#[derive(Clone, Copy)]
+pub struct Range {
+    pub low: Option<Edge>,
+    pub high: Option<Edge>,
+}
+
+impl Config {
+    /// The slots of the lock list: 32 for each page. LOCKLIST has at most 4,096 pages.
+    pub fn slots(&self) -> u32
+        requires { self.now.locklist ≤ 4096 }
+        ensures { result ≡ lock_slots self.now }
+    {
+        32 * self.locklist
+    }
+
+    /// The slots that one connection may take. MAXLOCKS is at most 100 percent.
+    pub fn share(&self) -> u32
+        requires pages { self.now.locklist ≤ 4096 }
+        requires percent { self.now.maxlocks ≤ 100 }
+        ensures { result ≡ lock_share self.now }
+    {
+        let all = u64::from(self.slots()) * u64::from(self.maxlocks);
+        (all / 100) as u32
+    }
+}

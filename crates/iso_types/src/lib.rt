@@ -1,0 +1,23 @@
+//! The plain data of the project: values and texts, rows and lists of them, lock names, heads,
+//! connections' desks, and the gate.
+#![tactic(auto)]
+
+mod cycle;
+mod desk;
+mod gate;
+mod head;
+mod items;
+mod row;
+mod text;
+mod value;
+
+pub use cycle::Cycle;
+pub use desk::{Desk, Edges, Phase};
+pub use gate::{Gate, OpenGate, Place};
+pub use head::{
+    Column, ColumnKind, Config, ConnDef, Edge, FirstRow, Head, IndexDef, Isolation, Range, TableDef,
+};
+pub use items::{Items, Memory, StepFault};
+pub use row::{Row, Rows};
+pub use text::Text;
+pub use value::{Conn, IndexId, Name, Rid, TableId, Value};
