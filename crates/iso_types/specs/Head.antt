@@ -105,3 +105,7 @@ lock_slots config = 32 * config.locklist
 -- the share of one connection
 abbrev pub lock_share : Config → ℕ
 lock_share config = lock_slots config * config.maxlocks / 100
+
+-- the number of the table's columns
+abbrev pub width_of : Head → TableId → ℕ
+width_of head t = option_map_or (λ d. length d.columns) (slice_get head.tables t.0) 0
