@@ -1,0 +1,2 @@
+//! The run of a script, and the top call.
+#![tactic(auto)]
