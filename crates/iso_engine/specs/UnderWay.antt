@@ -68,3 +68,7 @@ pub record IsClosing (head : Head) (lines : List Line) (es : List Entry) : Type 
 pub record IsOver (head : Head) (lines : List Line) (es : List Entry) : Type 0 where
   pub way : IsUnderWay head lines es []
   pub over : all_ended head (world head es) ≡ true
+
+-- the history is legal so far
+abbrev pub IsSoFar : Head → List Line → List Entry → Type 0
+IsSoFar head lines es = (left : List Line) × IsUnderWay head lines es left

@@ -1,2 +1,5 @@
 //! The run of a script, and the top call.
 #![tactic(auto)]
+
+mod reply;
+mod statement;
