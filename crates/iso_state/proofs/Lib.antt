@@ -1,0 +1,5 @@
+pub mod Phases
+pub mod Seats
+pub mod Shown
+pub mod DispatcherSteps
+pub mod AgentSteps

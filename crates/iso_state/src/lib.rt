@@ -1,6 +1,13 @@
 //! The state, and the steps that add one entry to its history.
 #![tactic(auto)]
 
+mod answers;
+mod changes;
+mod ends;
 mod parts;
+mod turns;
 
+pub use answers::{Looked, Written};
+pub use ends::{commit, ended, reply};
 pub use parts::Parts;
+pub use turns::{close, dispatch, finish};
