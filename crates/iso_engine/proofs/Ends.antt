@@ -6,8 +6,9 @@ use Rattle.iso_conduct.specs.Legal.{IsLegal}
 use Rattle.iso_conduct.specs.Points.{Part, Point, reply_of}
 use Rattle.iso_conduct.specs.Points.Part.{Answer, Settles}
 use Rattle.iso_engine.proofs.Ways.{idle-snoc, one_conn, rests, shuts, way-snoc}
-use Rattle.iso_engine.specs.UnderWay.{IsClosing, IsIdle, IsOver, IsRunning, IsUnderWay, RestsAt, RunsAt, ends_unit, first_conn}
-use Rattle.iso_history.proofs.Snoc.{world-snoc}
+use Rattle.iso_engine.specs.UnderWay.{IsClosing, IsIdle, IsOver, IsRunning, IsSoFar, IsUnderWay, RestsAt, RunsAt, ends_unit, first_conn}
+use Rattle.iso_conduct.proofs.Snoc.{Conduct-snoc, Paced-snoc}
+use Rattle.iso_history.proofs.Snoc.{Ground-snoc, world-snoc}
 use Rattle.iso_history.specs.After.{after, world}
 use Rattle.iso_history.specs.Makers.{by_agent, by_dispatcher}
 use Rattle.iso_history.specs.Phases.{phase, phase_of}
@@ -123,11 +124,24 @@ over-on head lines es one i = record {
 the_first : (head : Head) (c : Conn) → length head.conns ≡ 1 → IsTrue (is_conn head c) → first_conn ≡ c
 the_first head c one h = let z : c.0 ≡ 0 = omega (arith, ltb-true c.0 (length head.conns) h, one) in ap (λ n. record { 0 = n }) (sym z)
 
--- a run that is under way is legal
-pub legal-of : (script : Script) (es : List Entry) (left : List Line)
-    → length script.head.conns ≡ 1 → IsUnderWay script.head script.lines es left → IsLegal script es
-legal-of script es left one u = record {
+-- a run that is under way is legal so far
+pub so-far : (head : Head) (lines : List Line) (es : List Entry) (left : List Line) → IsUnderWay head lines es left → IsSoFar head lines es
+so-far head lines es left u = record { ground = u.ground; conduct = u.conduct; paced = u.paced }
+
+-- and its history is legal
+pub legal-of : (script : Script) (es : List Entry)
+    → length script.head.conns ≡ 1 → IsSoFar script.head script.lines es → IsLegal script es
+legal-of script es one u = record {
   ground = u.ground;
   conduct = λ c h. subst (λ d. Conduct script.head script.lines es d) (the_first script.head c one h) u.conduct;
   paced = u.paced;
+}
+
+-- the history is finished
+pub finished-on : (head : Head) (lines : List Line) (es : List Entry) → IsOver head lines es
+    → IsSoFar head lines (es ++ by_dispatcher Finish ∷ [])
+finished-on head lines es i = record {
+  ground = Ground-snoc head es (by_dispatcher Finish) i.way.ground (rw i.way.open_ refl, i.over);
+  conduct = Conduct-snoc head lines first_conn es (by_dispatcher Finish) i.way.conduct (λ h. absurd (cc));
+  paced = Paced-snoc head lines es (by_dispatcher Finish) i.way.paced i.way.leaves;
 }

@@ -2,3 +2,4 @@ pub mod Ways
 pub mod Turns
 pub mod Ends
 pub mod Lines
+pub mod Carry

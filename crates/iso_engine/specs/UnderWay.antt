@@ -70,5 +70,7 @@ pub record IsOver (head : Head) (lines : List Line) (es : List Entry) : Type 0 w
   pub over : all_ended head (world head es) ≡ true
 
 -- the history is legal so far
-abbrev pub IsSoFar : Head → List Line → List Entry → Type 0
-IsSoFar head lines es = (left : List Line) × IsUnderWay head lines es left
+pub record IsSoFar (head : Head) (lines : List Line) (es : List Entry) : Type 0 where
+  pub ground : Ground head es
+  pub conduct : Conduct head lines es first_conn
+  pub paced : Paced head lines es

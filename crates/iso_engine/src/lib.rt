@@ -2,4 +2,4 @@
 #![tactic(auto)]
 
 mod reply;
-mod statement;
+mod serial;
