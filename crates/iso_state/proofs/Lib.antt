@@ -3,3 +3,5 @@ pub mod Seats
 pub mod Shown
 pub mod DispatcherSteps
 pub mod AgentSteps
+pub mod Tables
+pub mod LookSteps

@@ -93,10 +93,10 @@ module _ (head : Head) (w : World) (c : Conn) where
   pub ended-at : phase (after head w (by_agent c Act.Ended)) c ≡ Phase.Ended
   ended-at =
       ap (λ b. phase_of b (w.closing c) (is_some (w.doom c)) (is_waiting (unqueued c w.waits) c) (is_none (at_conn w.line c None c)))
-          (at_conn-same w.ended c true)
+      (at_conn-same w.ended c true)
 
   pub ended-others : w.waits ≡ [] → (d : Conn) → d.0 ≢ c.0 → phase (after head w (by_agent c Act.Ended)) d ≡ phase w d
   ended-others none d ne =
       ap (λ b. phase_of b (w.closing d) (is_some (w.doom d)) (is_waiting (unqueued c w.waits) d) (is_none (at_conn w.line c None d)))
-          (at_conn-other w.ended c true d ne)
+      (at_conn-other w.ended c true d ne)
       ∙ shut-others none d ne

@@ -37,7 +37,13 @@ pub fn commit(parts: &mut Parts, conn: Conn) -> Result<(), Memory>
 /// Answers the statement of a running connection, which is idle then: an SQLCODE, the number of rows that were
 /// changed, and the rows of a query. After `Memory`, where the history finds none, all is as before, and the
 /// rows are dropped.
-pub fn reply(parts: &mut Parts, conn: Conn, code: i32, changed: u32, rows: Rows) -> Result<(), Memory>
+pub fn reply(
+    parts: &mut Parts,
+    conn: Conn,
+    code: i32,
+    changed: u32,
+    rows: Rows,
+) -> Result<(), Memory>
     requires stands { StandsFor parts.old }
     requires open { (world_of parts.old).pace.finished ≡ false }
     requires conn { conn.0 < length parts.old.head.conns }

@@ -5,9 +5,11 @@ mod answers;
 mod changes;
 mod ends;
 mod parts;
+mod rows;
 mod turns;
 
 pub use answers::{Looked, Written};
 pub use ends::{commit, ended, reply};
 pub use parts::Parts;
+pub use rows::look;
 pub use turns::{close, dispatch, finish};
