@@ -3,3 +3,4 @@ pub mod Turns
 pub mod Ends
 pub mod Lines
 pub mod Carry
+pub mod Looks
