@@ -1,5 +1,6 @@
 //! The run of a script, and the top call.
 #![tactic(auto)]
 
+mod query;
 mod reply;
 mod serial;
