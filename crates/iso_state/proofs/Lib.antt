@@ -6,3 +6,4 @@ pub mod AgentSteps
 pub mod Tables
 pub mod LookSteps
 pub mod InsertSteps
+pub mod FirstParts
