@@ -5,3 +5,5 @@ pub mod DispatcherSteps
 pub mod AgentSteps
 pub mod Tables
 pub mod LookSteps
+pub mod InsertSteps
+pub mod FirstParts

@@ -11,5 +11,5 @@ mod turns;
 pub use answers::{Looked, Written};
 pub use ends::{commit, ended, reply};
 pub use parts::Parts;
-pub use rows::look;
+pub use rows::{insert, look};
 pub use turns::{close, dispatch, finish};
