@@ -10,3 +10,6 @@ pub use memory::{SinkMemory, SinkPlain, SourceMemory, SourcePlain};
 pub use script::{ReadFault, WriteFault, read_script, write_whole};
 pub use std_edge::{SinkStd, SourceStd};
 pub use traits::{Failed, Sink, Source};
+
+#[cfg(test)]
+mod tests;

@@ -220,9 +220,9 @@ impl Sink for SinkMemory {
         ensures unfailed { OnOk result (self.new.faults ≡ self.old.faults) }
     {
         if self.calls < self.fails.len() {
-            let fail = self.fails.as_slice()[self.calls];
+            let planned = self.fails.as_slice()[self.calls];
             self.calls += 1;
-            if fail {
+            if planned {
                 self.faults = self.faults.saturating_add(1);
                 return Err(Failed);
             }

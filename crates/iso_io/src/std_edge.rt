@@ -97,3 +97,90 @@ impl<T: Write> Sink for SinkStd<T> {
         }
     }
 }
+
+#[cfg(test)]
+mod tests {
+    use super::*;
+    use crate::{ReadFault, WriteFault, read_script, write_whole};
+    use std::io;
+    use std::test::Fail;
+
+    /// A reader and writer that moves so many bytes, at most two a call, and then fails.
+    #[derive(Drop)]
+    struct Failing(usize);
+
+    impl Read for Failing {
+        fn read(&mut self, buf: &mut [u8]) -> io::Result<usize> {
+            let n = self.0.min(buf.len()).min(2);
+            if n == 0 {
+                return Err(io::ErrorKind::Other.into());
+            }
+            self.0 -= n;
+            Ok(n)
+        }
+    }
+
+    impl Write for Failing {
+        fn write(&mut self, buf: &[u8]) -> io::Result<usize> {
+            let n = self.0.min(buf.len()).min(2);
+            if n == 0 {
+                return Err(io::ErrorKind::Other.into());
+            }
+            self.0 -= n;
+            Ok(n)
+        }
+
+        fn flush(&mut self) -> io::Result<()> {
+            Ok(())
+        }
+    }
+
+    /// A writer that takes nothing.
+    #[derive(Drop)]
+    struct Full;
+
+    impl Write for Full {
+        fn write(&mut self, _buf: &[u8]) -> io::Result<usize> {
+            Ok(0)
+        }
+
+        fn flush(&mut self) -> io::Result<()> {
+            Ok(())
+        }
+    }
+
+    // Whether reading a script answers a fault, and the source has then failed so often.
+    fn fails(rt: &impl AllocGlobal, source: &mut SourceStd<Failing>, faults: u64) -> bool {
+        let read = read_script(rt.alloc(), source);
+        matches!(&read, Err(ReadFault::ReadFault)) && source.faults == faults
+    }
+
+    // What writing answers, and how often the sink has then failed.
+    fn writes<T: Write>(sink: &mut SinkStd<T>) -> (Result<(), WriteFault>, u64) {
+        let answer = write_whole(sink, b"END\n");
+        (answer, sink.faults)
+    }
+
+    #[test]
+    fn failing_streams_of_std_count(rt: HostRuntime) {
+        let mut source = SourceStd::new(Failing(5));
+        assert!(rt; fails(&rt, &mut source, 1));
+        assert!(rt; fails(&rt, &mut source, 2));
+        let mut sink = SinkStd::new(Failing(5));
+        assert_eq!(rt; writes(&mut sink), (Ok(()), 0));
+        assert_eq!(rt; writes(&mut sink), (Err(WriteFault), 1));
+        let mut full = SinkStd::new(Full);
+        assert_eq!(rt; writes(&mut full), (Err(WriteFault), 1));
+    }
+
+    #[test]
+    fn streams_of_std_that_serve(rt: HostRuntime) -> Result<(), Fail> {
+        let mut source = SourceStd::new(b"END\n".as_slice());
+        let read = read_script(rt.alloc(), &mut source).map_err(|_| "a fault")?;
+        assert_eq!(rt; read.as_slice(), b"END\n".as_slice());
+        let mut sink = SinkStd::new(Vec::new(rt.alloc()));
+        assert_eq!(rt; writes(&mut sink), (Ok(()), 0));
+        assert_eq!(rt; sink.writer.as_slice(), b"END\n".as_slice());
+        Ok(())
+    }
+}
