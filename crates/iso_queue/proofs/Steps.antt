@@ -1,8 +1,8 @@
 -- The steps of the loops.
-use Rattle.std.proofs.Common.{◌≡◌, ◌<◌, ◌≤◌, ◌+◌, ◌^◌, ℕ, suc, Bool, true, false, not, ◌&&◌, List, [], ◌∷◌, ◌++◌, length, take, drop, get_or, refl, ap, sym, ◌∙◌, arith, append_assoc, add-one, drop-cons}
+use Rattle.std.proofs.Common.{◌≡◌, ◌<◌, ◌≤◌, ◌+◌, ◌^◌, ℕ, Bool, true, false, not, ◌&&◌, List, [], ◌∷◌, ◌++◌, length, take, drop, get_or, refl, ap, sym, ◌∙◌, arith, append_assoc, add-one, drop-cons}
 use Rattle.std.specs.List.{list_any, insert}
 use Rattle.std.specs.Prelude.{if◌then◌else◌, slice_set}
-use Rattle.std.proofs.lemmas.List.{set_split, take_more, take_all, drop_all, append-nil}
+use Rattle.std.proofs.lemmas.List.{set_split, take_more, take_all, drop_all}
 use Rattle.std.proofs.lemmas.List.Sums.{length-filter, count_by-le-length}
 use Rattle.iso_queue.specs.Lines.{bits_of, before, granted, is_holder, is_waiter, queued, raised, unqueued}
 use Rattle.iso_queue.specs.declared.types.Hold.{Hold}

@@ -3,14 +3,12 @@
 -- Db2 LUW, 'Lock type compatibility' and 'Lock conversion'.
 use Rattle.std.specs.List.{list_any}
 use Rattle.std.specs.Option.{option_map_or}
-use Rattle.std.specs.Prelude.{ℕ, zero, suc, ◌+◌, ◌^◌, Bool, true, false, not, ◌&&◌, ◌||◌, List, [], ◌∷◌, ◌++◌, map, is_some, if◌then◌else◌, filter, find, Option, length}
+use Rattle.std.specs.Prelude.{ℕ, zero, suc, ◌+◌, ◌^◌, Bool, true, false, not, ◌&&◌, ◌||◌, List, [], ◌∷◌, is_some, if◌then◌else◌, filter, find, Option}
 use Rattle.iso_modes.specs.Modes.{compatible, joined, mode_eq}
-use Rattle.iso_modes.specs.Terms.{is_brief, is_fresh, is_kept}
+use Rattle.iso_modes.specs.Terms.{is_kept}
 use Rattle.iso_modes.specs.declared.Mode.{Mode}
 use Rattle.iso_modes.specs.declared.Term.{Term}
 use Rattle.iso_modes.specs.declared.Term.TheVariants.{Kept}
-use Rattle.iso_queue.specs.declared.types.Asked.{Asked}
-use Rattle.iso_queue.specs.declared.types.Claimed.{Claimed}
 use Rattle.iso_queue.specs.declared.types.Hold.{Hold}
 use Rattle.iso_queue.specs.declared.types.Waiter.{Waiter}
 use Rattle.iso_types.specs.Ids.{conn_eq}

@@ -1,4 +1,4 @@
-use Rattle.std.proofs.Common.{◌≡◌, ◌<◌, sym, ◌∙◌, arith, refl}
+use Rattle.std.proofs.Common.{arith, refl}
 use Rattle.iso_queue.specs.Lines.{bits_of}
 use Rattle.iso_queue.proofs.Steps.{bits_more}
 use Rattle.iso_queue.proofs.lists.edge_bits.Goals as goal

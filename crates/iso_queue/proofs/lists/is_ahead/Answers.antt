@@ -1,4 +1,4 @@
-use Rattle.std.proofs.Common.{◌≡◌, ◌<◌, length, sym, ◌∙◌, arith}
+use Rattle.std.proofs.Common.{sym, ◌∙◌}
 use Rattle.iso_queue.proofs.Steps.{ahead_here, ahead_past}
 use Rattle.iso_queue.proofs.lists.is_ahead.Goals as goal
 

@@ -1,4 +1,4 @@
-use Rattle.std.proofs.Common.{◌≡◌, refl, sym}
+use Rattle.std.proofs.Common.{refl, sym}
 use Rattle.iso_queue.proofs.Steps.{queued_end, queued_here, queued_new, queued_past}
 use Rattle.iso_queue.proofs.lists.place_in_queue.Goals as goal
 
