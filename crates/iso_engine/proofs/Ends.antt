@@ -3,10 +3,12 @@ use Rattle.std.proofs.Common.{◌≡◌, ℕ, ◌<◌, Bool, true, false, not, �
 use Rattle.std.proofs.lemmas.Bool.{ltb-true}
 use Rattle.iso_conduct.specs.Conduct.{Conduct, Does, opened, point, point_after}
 use Rattle.iso_conduct.specs.Legal.{IsLegal}
-use Rattle.iso_conduct.specs.Points.{Part, Point, reply_of}
+use Rattle.iso_conduct.specs.Points.{Part, Point, reply_of, select_code, select_rows}
 use Rattle.iso_conduct.specs.Points.Part.{Answer, Settles}
 use Rattle.iso_engine.proofs.Ways.{idle-snoc, one_conn, rests, shuts, way-snoc}
 use Rattle.iso_engine.specs.UnderWay.{IsClosing, IsIdle, IsOver, IsRunning, IsSoFar, IsUnderWay, RestsAt, RunsAt, ends_unit, first_conn}
+use mir.Val.{of_z, to_z}
+use mir.Syntax.{w32}
 use Rattle.iso_conduct.proofs.Snoc.{Conduct-snoc, Paced-snoc}
 use Rattle.iso_history.proofs.Snoc.{Ground-snoc, world-snoc}
 use Rattle.iso_history.specs.After.{after, world}
@@ -22,7 +24,11 @@ use Rattle.iso_queue.specs.Queues.{Wait, is_waiting, unqueued}
 use Rattle.iso_script.specs.Built.{is_open_behind}
 use Rattle.iso_script.specs.declared.script.Line.{Line}
 use Rattle.iso_script.specs.declared.script.Script.{Script}
+use Rattle.iso_sql.specs.declared.statement.Condition.{Condition}
+use Rattle.iso_sql.specs.declared.statement.Items2.{Items2}
 use Rattle.iso_sql.specs.declared.statement.Statement.{Statement}
+use Rattle.iso_types.specs.declared.head.Isolation.{Isolation}
+use Rattle.iso_types.specs.declared.value.TableId.{TableId}
 use Rattle.iso_types.specs.Head.{is_conn}
 use Rattle.iso_types.specs.Ids.{conn_eq}
 use Rattle.iso_types.specs.declared.desk.Phase.TheVariants.{Closing, Idle, Running}
@@ -145,3 +151,21 @@ finished-on head lines es i = record {
   conduct = Conduct-snoc head lines first_conn es (by_dispatcher Finish) i.way.conduct (λ h. absurd (cc));
   paced = Paced-snoc head lines es (by_dispatcher Finish) i.way.paced i.way.leaves;
 }
+
+-- a query's reply
+pub query_reply : (t : TableId) (items : Items2) (level : Option Isolation) (kept rows : List (List Value)) (code : ℤ)
+    → code ≡ select_code items kept → rows ≡ select_rows items kept
+    → reply_of (Statement.Select t items Condition.Always level) kept ≡ Reply code 0 rows
+query_reply t items level kept rows code e f = rw (e, f) refl
+
+-- a query's code is read back from its 32 bits
+pub code_back : (items : Items2) (kept : List (List Value)) (z : ℤ) → z ≡ select_code items kept
+    → to_z w32 (of_z w32 z) ≡ select_code items kept
+code_back items kept z e = rw e (go items kept)
+  where
+    go : (i : Items2) (k : List (List Value)) → to_z w32 (of_z w32 (select_code i k)) ≡ select_code i k
+    go Items2.Count k = refl
+    go Items2.All [] = refl
+    go Items2.All (x ∷ xs) = refl
+    go (Items2.Columns ks) [] = refl
+    go (Items2.Columns ks) (x ∷ xs) = refl

@@ -1,12 +1,16 @@
 -- The line that is taken next.
-use Rattle.std.proofs.Common.{◌≡◌, ℕ, ◌<◌, ◌+◌, ◌&&◌, Bool, true, false, not, List, [], ◌∷◌, refl, sym, subst, ap, ◌∙◌, Option, Some, None, IsTrue, length, arith, nat_lt, get_or, zero, suc, find, ◌==◌}
+use Rattle.std.proofs.Common.{◌≡◌, ℕ, ◌<◌, ◌+◌, ◌&&◌, Bool, true, false, not, List, [], ◌∷◌, refl, sym, subst, ap, ◌∙◌, Option, Some, None, IsTrue, length, arith, nat_lt, get_or, zero, suc, find, ◌==◌, ◌++◌, drop, drop-cons, add-one}
 use Rattle.std.specs.List.{list_all}
 use Rattle.std.proofs.lemmas.Bool.{eq-eqb, eqb-true, ltb-true}
 use Rattle.std.proofs.lemmas.List.Folds.{list_all_at}
 use Rattle.iso_conduct.specs.Points.{line_at, statement_in}
-use Rattle.iso_engine.proofs.Turns.{IsNextLine}
+use Rattle.iso_conduct.specs.Points.{start_point}
+use Rattle.iso_engine.proofs.Turns.{IsNextLine, dispatched}
+use Rattle.iso_history.specs.Makers.{by_dispatcher}
+use Rattle.iso_history.specs.declared.entry.Act.TheVariants.{Dispatch}
+use Rattle.iso_history.specs.declared.entry.Entry.{Entry}
 use Rattle.iso_engine.specs.Runnable.{CanRun}
-use Rattle.iso_engine.specs.UnderWay.{first_conn}
+use Rattle.iso_engine.specs.UnderWay.{IsIdle, IsRunning, first_conn}
 use Rattle.iso_script.specs.Built.{is_built_line, is_built_what, is_first}
 use Rattle.iso_script.specs.Numbered.{rises_above}
 use Rattle.iso_script.specs.declared.script.Line.{Line}
@@ -72,3 +76,14 @@ next_line head lines k d s can within is = record {
   conn = the_first (get_or lines k d).conn (first_of _ _ (at_all (is_built_line head) lines k d within can.built));
   what = is;
 }
+
+-- the line at this place is taken
+pub taken : (head : Head) (lines : List Line) (es : List Entry) (k : ℕ) (l : Line) (s : Statement) → CanRun head lines → k < length lines
+    → l ≡ get_or lines k l → l.what ≡ What.Statement s → IsIdle head lines es (drop k lines)
+    → IsRunning head lines (es ++ by_dispatcher (Dispatch l.number first_conn) ∷ []) (start_point s) (drop (k + 1) lines)
+taken head lines es k l s can within there asks idle =
+    dispatched head lines es l (drop (k + 1) lines) s can.conns
+    (subst (λ x. IsNextLine lines x s) (sym there) (next_line head lines k l s can within
+        (ap (λ x. statement_in x.what) (sym there) ∙ ap statement_in asks)))
+    (subst (λ x. IsIdle head lines es (x ∷ drop (k + 1) lines)) (sym there)
+        (subst (λ ls. IsIdle head lines es ls) (rw add-one (drop-cons lines k l within)) idle))

@@ -30,3 +30,7 @@ abbrev pub GoesOn : Head → List Line → List Entry → Statement → TableId 
 GoesOn head lines es s t r kept left (Shown o) =
     IsRunning head lines es (looked (scanning s t r kept) o) left × (r + 1 ≤ slots (world head es) t)
 GoesOn head lines es s t r kept left EndOfTable = IsRunning head lines es (scanned_out s r kept) left
+
+-- the point of an insertion behind its new row
+abbrev pub inserted_out : TableId → List Value → Point
+inserted_out t row = record { statement = Statement.Insert t row; left = Answer ∷ []; rid = 0; kept = [] }

@@ -14,7 +14,7 @@ use iso_types::{Conn, Memory};
 pub const FIRST: Conn = Conn(0);
 
 /// Commits. `left` is the place of the first line that is not yet taken.
-fn run_commit(parts: &mut Parts, lines: &[Line], left: usize) -> Result<(), Memory>
+pub fn run_commit(parts: &mut Parts, lines: &[Line], left: usize) -> Result<(), Memory>
     requires can { CanRun parts.old.head lines.now }
     requires stands { StandsFor parts.old }
     requires runs { IsRunning parts.old.head lines.now parts.old.history.items (start_point Commits) (drop left lines.now) }
@@ -53,7 +53,7 @@ fn end_it(parts: &mut Parts, lines: &[Line]) -> Result<(), Memory>
 }
 
 /// Closes the connection, ends it and finishes the history, once no line is left.
-fn run_end(parts: &mut Parts, lines: &[Line]) -> Result<(), Memory>
+pub fn run_end(parts: &mut Parts, lines: &[Line]) -> Result<(), Memory>
     requires can { CanRun parts.old.head lines.now }
     requires stands { StandsFor parts.old }
     requires idle { IsIdle parts.old.head lines.now parts.old.history.items [] }
