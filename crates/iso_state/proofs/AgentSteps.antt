@@ -1,5 +1,5 @@
 -- The parts after a Commit, a Reply and an Ended.
-use Rattle.std.proofs.Common.{◌≡◌, ◌<◌, ℕ, false, List, [], ◌∷◌, length, refl, ap}
+use Rattle.std.proofs.Common.{◌≡◌, ◌<◌, ℕ, false, List, [], length, refl, ap}
 use Rattle.std.specs.Prelude.{ℤ}
 use Rattle.iso_queue.specs.Queues.{unqueued}
 use Rattle.iso_types.specs.declared.desk.Phase.{Phase}

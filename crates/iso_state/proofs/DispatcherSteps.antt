@@ -1,5 +1,5 @@
 -- The parts after an entry of the dispatcher.
-use Rattle.std.proofs.Common.{◌≡◌, ◌<◌, ℕ, Bool, true, false, not, List, [], ◌∷◌, length, refl, ap, sym, ◌∙◌, Some, None, Option, if◌then◌else◌, find}
+use Rattle.std.proofs.Common.{◌≡◌, ◌<◌, ℕ, Bool, true, false, List, [], ◌∷◌, length, refl, Some, if◌then◌else◌, find}
 use Rattle.std.specs.Prelude.{IsTrue}
 use Rattle.iso_types.specs.Head.{conns}
 use Rattle.iso_types.specs.declared.desk.Phase.{Phase}

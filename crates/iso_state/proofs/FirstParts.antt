@@ -1,7 +1,6 @@
 -- The first parts stand for the empty history.
-use Rattle.std.proofs.Common.{◌≡◌, ◌<◌, ℕ, zero, suc, List, [], ◌∷◌, length, map, refl, ap, sym, ◌∙◌, Some, Option, filter, replicate}
+use Rattle.std.proofs.Common.{◌≡◌, ℕ, zero, suc, List, [], ◌∷◌, length, map, refl, ap, ◌∙◌, Some, Option, filter, replicate}
 use Rattle.std.specs.Prelude.{slice_index_or}
-use Rattle.std.specs.List.{range_with_len}
 use Rattle.std.proofs.lemmas.List.{length-map, length-replicate}
 use Rattle.std.proofs.lemmas.List.FromFn.{length-map-range_with_len}
 use Rattle.iso_types.specs.Head.{rows_of, tables}
@@ -16,7 +15,7 @@ use Rattle.iso_types.specs.declared.value.Value.{Value}
 use Rattle.iso_history.specs.After.{start, world, world_from}
 use Rattle.iso_history.specs.Legal.{Ground, GroundFrom}
 use Rattle.iso_history.specs.declared.entry.Entry.{Entry}
-use Rattle.iso_history.specs.Versions.{first_tables, first_version, present}
+use Rattle.iso_history.specs.Versions.{first_version, present}
 use Rattle.iso_state.specs.Firsts.{first_content, first_desk}
 use Rattle.iso_state.specs.Stands.{AreOf, Stands, no_desk}
 

@@ -1,6 +1,6 @@
 -- The parts after a look.
-use Rattle.std.proofs.Common.{◌≡◌, ◌<◌, ◌≤◌, ◌⊎◌, inl, inr, ℕ, Bool, true, false, List, [], ◌∷◌, ◌++◌, length, map, refl, ap, sym, ◌∙◌, arith, Some, None, Option, get_or, subst, if◌then◌else◌}
-use Rattle.std.specs.Prelude.{nat_lt, slice_get, IsTrue}
+use Rattle.std.proofs.Common.{◌≡◌, ◌<◌, ◌≤◌, ◌⊎◌, inl, inr, ℕ, Bool, true, false, List, [], length, map, refl, ap, sym, ◌∙◌, arith, Some, None, Option, get_or, if◌then◌else◌}
+use Rattle.std.specs.Prelude.{nat_lt, slice_get}
 use Rattle.std.proofs.lemmas.Bool.Decides.{nat_tests}
 use Rattle.std.proofs.lemmas.Option.{slice_get-get_or, slice_get_cases}
 use Rattle.iso_types.specs.Head.{is_table}
@@ -15,7 +15,6 @@ use Rattle.iso_history.specs.Makers.{by_agent}
 use Rattle.iso_history.specs.Phases.{phase}
 use Rattle.iso_history.specs.Versions.{present, slots, versions}
 use Rattle.iso_history.specs.World.{World}
-use Rattle.iso_history.specs.declared.entry.Act.{Act}
 use Rattle.iso_history.specs.declared.entry.Act.TheVariants.{Look, ScanEnd}
 use Rattle.iso_history.specs.declared.entry.Got.TheVariants.{Granted}
 use Rattle.iso_history.specs.declared.entry.Want.{Want}

@@ -1,6 +1,6 @@
 -- Phases after one more entry.
-use Rattle.std.proofs.Common.{◌≡◌, ◌≢◌, ℕ, Bool, true, false, List, [], Some, None, Option, refl, ap, sym, ◌∙◌, arith, if◌then◌else◌}
-use Rattle.std.specs.Prelude.{◌==◌, is_some, is_none, ℤ}
+use Rattle.std.proofs.Common.{◌≡◌, ◌≢◌, ℕ, Bool, true, false, List, [], Some, None, Option, refl, ap, sym, ◌∙◌, arith}
+use Rattle.std.specs.Prelude.{is_some, is_none, ℤ}
 use Rattle.std.proofs.lemmas.Bool.Decides.{nat_tests}
 use Rattle.iso_types.specs.declared.desk.Phase.{Phase}
 use Rattle.iso_types.specs.declared.desk.Phase.TheVariants.{Closing, Idle, Running}

@@ -1,5 +1,5 @@
 -- What the slots of the world and the rows of the parts have in common.
-use Rattle.std.proofs.Common.{◌≡◌, ◌<◌, ◌≤◌, ℕ, List, [], ◌∷◌, ◌++◌, length, map, refl, ap, sym, ◌∙◌, arith, Some, None, Option, get_or}
+use Rattle.std.proofs.Common.{◌≡◌, ◌<◌, List, [], length, map, ap, sym, ◌∙◌, Some, None, Option, get_or}
 use Rattle.std.proofs.Math.ListN.{get_or-map}
 use Rattle.std.proofs.lemmas.List.{length-map}
 use Rattle.std.proofs.lemmas.List.{get_or-map as get_or-map_at}

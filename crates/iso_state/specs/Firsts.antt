@@ -1,10 +1,9 @@
 -- What the parts hold before the first entry.
-use Rattle.std.specs.Prelude.{true, List, [], length, map, replicate}
+use Rattle.std.specs.Prelude.{true, [], length, map, replicate}
 use Rattle.iso_types.specs.declared.desk.Desk.{Desk}
 use Rattle.iso_types.specs.declared.desk.Phase.TheVariants.{Idle}
 use Rattle.iso_types.specs.declared.head.ConnDef.{ConnDef}
 use Rattle.iso_types.specs.declared.head.Head.{Head}
-use Rattle.iso_types.specs.declared.value.Value.{Value}
 use Rattle.iso_state.specs.Stands.{Content}
 
 -- a connection is idle at first, at the level of its CONNECT line, and its requests may queue

@@ -2,3 +2,4 @@ pub mod Stands
 pub mod Looks
 pub mod Changes
 pub mod Firsts
+pub mod Tale

@@ -1,5 +1,5 @@
 -- What a look shows, and the entry that it makes.
-use Rattle.std.specs.Prelude.{List, Option, Some, None, if◌then◌else◌, nat_lt, slice_get}
+use Rattle.std.specs.Prelude.{List, Some, None, if◌then◌else◌, nat_lt, slice_get}
 use Rattle.iso_history.specs.Versions.{present, slots, versions}
 use Rattle.iso_history.specs.World.{World}
 use Rattle.iso_history.specs.declared.entry.Act.{Act}

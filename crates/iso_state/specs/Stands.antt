@@ -1,5 +1,5 @@
 -- When parts stand for their history.
-use Rattle.std.specs.Prelude.{◌≡◌, ℕ, ◌<◌, ◌≤◌, Bool, true, false, List, [], ◌∷◌, length, map, Option, Some, None, slice_index_or}
+use Rattle.std.specs.Prelude.{◌≡◌, ◌<◌, true, List, [], length, map, Some, slice_index_or}
 use Rattle.iso_types.specs.declared.desk.Desk.{Desk}
 use Rattle.iso_types.specs.declared.desk.Phase.TheVariants.{Idle}
 use Rattle.iso_types.specs.declared.head.Head.{Head}

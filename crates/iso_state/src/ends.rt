@@ -22,15 +22,11 @@ pub fn commit(parts: &mut Parts, conn: Conn) -> Result<(), Memory>
     ensures err { OnErr result (content_of parts.new ≡ content_of parts.old) }
 {
     make_room(parts)?;
-    move_to(
-        parts,
-        conn,
-        Phase::Idle,
-        Entry {
-            who: Who::Agent(conn),
-            act: Act::Commit,
-        },
-    );
+    let entry = Entry {
+        who: Who::Agent(conn),
+        act: Act::Commit,
+    };
+    move_to(parts, conn, Phase::Idle, entry);
     Ok(())
 }
 
@@ -59,15 +55,8 @@ pub fn reply(
         changed,
         rows,
     };
-    move_to(
-        parts,
-        conn,
-        Phase::Idle,
-        Entry {
-            who: Who::Agent(conn),
-            act,
-        },
-    );
+    let who = Who::Agent(conn);
+    move_to(parts, conn, Phase::Idle, Entry { who, act });
     Ok(())
 }
 
@@ -85,14 +74,10 @@ pub fn ended(parts: &mut Parts, conn: Conn) -> Result<(), Memory>
     ensures err { OnErr result (content_of parts.new ≡ content_of parts.old) }
 {
     make_room(parts)?;
-    move_to(
-        parts,
-        conn,
-        Phase::Ended,
-        Entry {
-            who: Who::Agent(conn),
-            act: Act::Ended,
-        },
-    );
+    let entry = Entry {
+        who: Who::Agent(conn),
+        act: Act::Ended,
+    };
+    move_to(parts, conn, Phase::Ended, entry);
     Ok(())
 }

@@ -72,13 +72,8 @@ pub fn look(
     let looked = looked(parts, alloc, table, rid)?;
     make_room(parts)?;
     let act = act_of_look(&looked, table, rid, want);
-    note(
-        parts,
-        Entry {
-            who: Who::Agent(conn),
-            act,
-        },
-    );
+    let who = Who::Agent(conn);
+    note(parts, Entry { who, act });
     Ok(looked)
 }
 

@@ -41,15 +41,11 @@ pub fn close(parts: &mut Parts, conn: Conn) -> Result<(), Memory>
     ensures err { OnErr result (content_of parts.new ≡ content_of parts.old) }
 {
     make_room(parts)?;
-    move_to(
-        parts,
-        conn,
-        Phase::Closing,
-        Entry {
-            who: Who::Dispatcher,
-            act: Act::Close { conn },
-        },
-    );
+    let entry = Entry {
+        who: Who::Dispatcher,
+        act: Act::Close { conn },
+    };
+    move_to(parts, conn, Phase::Closing, entry);
     Ok(())
 }
 
@@ -65,12 +61,10 @@ pub fn finish(parts: &mut Parts) -> Result<(), Memory>
     ensures err { OnErr result (content_of parts.new ≡ content_of parts.old) }
 {
     make_room(parts)?;
-    note(
-        parts,
-        Entry {
-            who: Who::Dispatcher,
-            act: Act::Finish,
-        },
-    );
+    let entry = Entry {
+        who: Who::Dispatcher,
+        act: Act::Finish,
+    };
+    note(parts, entry);
     Ok(())
 }

@@ -1,5 +1,4 @@
-use Rattle.std.proofs.Common.{◌≡◌, ◌∙◌, ap, sym, subst, replicate, [], ℕ}
-use Rattle.iso_types.specs.declared.value.Value.{Value}
+use Rattle.std.proofs.Common.{◌∙◌, ap, sym, subst, replicate, [], ℕ}
 use Rattle.iso_state.specs.Stands.{Content, Stands}
 use Rattle.iso_state.proofs.FirstParts.{first-is, first-stands}
 use Rattle.iso_state.proofs.parts.Parts.new.Goals as goal
