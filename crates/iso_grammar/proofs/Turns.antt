@@ -1,5 +1,6 @@
 -- A repetition that a loop collects in a list.
 use Rattle.std.proofs.Common.{◌≡◌, ℕ, zero, suc, ◌+◌, ◌-◌, ◌≤◌, ◌<◌, Bool, true, false, cond, List, [], ◌∷◌, ◌++◌, append_assoc, Result, Ok, Err, refl, sym, ap, ◌∙◌, arith}
+use Rattle.std.proofs.lemmas.List.{append-nil}
 use Rattle.iso_grammar.specs.declared.token.Token.{Token}
 use Rattle.iso_grammar.specs.declared.tokens.ReadError.{ReadError}
 use Rattle.iso_grammar.specs.declared.tokens.ReadError.TheVariants.{Memory, Syntax}
@@ -30,12 +31,12 @@ module _ {A : Type 0} (first : Kinds) (p : Parser A) where
   -- no other turn
   pub rest_of-stop : (n : ℕ) (all : List A) (ts : List Token) → begins first ts ≡ false → rest_of first p n all ts ≡ Ok (all, ts)
   unfolding rest_of
-  rest_of-stop zero all ts b = refl
-  rest_of-stop (suc n) all ts b = ap (λ v. and_then (cond v (and_then (p ts) (λ x. many first p n >>= λ xs. pure (x ∷ xs))) (pure [] ts)) (λ more. pure (all ++ more))) b
+  rest_of-stop zero all ts b = ap (λ z. pure z ts) (append-nil all)
+  rest_of-stop (suc n) all ts b = ap (λ v. and_then (cond v (and_then (p ts) (λ x. many first p n >>= λ xs. pure (x ∷ xs))) (pure [] ts)) (λ more. pure (all ++ more))) b ∙ ap (λ z. pure z ts) (append-nil all)
 
   pub rest_of-end : (n i : ℕ) (all : List A) (ts : List Token) → n ≤ i → rest_of first p (n - i) all ts ≡ Ok (all, ts)
   unfolding rest_of
-  rest_of-end n i all ts le = ap (λ m. rest_of first p m all ts) (zeroed (n - i) (omega arith))
+  rest_of-end n i all ts le = ap (λ m. rest_of first p m all ts) (zeroed (n - i) (omega arith)) ∙ ap (λ z. pure z ts) (append-nil all)
     where
       zeroed : (m : ℕ) → m ≤ 0 → m ≡ 0
       zeroed m le = omega arith

@@ -1,1 +1,4 @@
 pub mod Built
+pub mod Rules
+pub mod Reading
+pub mod RuleReading
