@@ -9,6 +9,6 @@ mod values;
 
 pub use lex::{is_comment, tokens_of};
 pub use lines::first_line;
-pub use token::{Kind, Token};
+pub use token::{Kind, Token, same};
 pub use tokens::{ReadError, Tokens};
 pub use values::{integer, name, text_of};

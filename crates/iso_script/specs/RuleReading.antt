@@ -90,14 +90,14 @@ commit = do
   expect k.Commit
   pure (Some statement.Commit)
 
-unfoldable pub statement : Head → List ℕ → ℕ → Parser (Option Statement)
-statement head line n = either (k.Insert ∷ []) (insert head line n) (either (k.Select ∷ []) (select head line) commit)
+unfoldable pub any_statement : Head → List ℕ → ℕ → Parser (Option Statement)
+any_statement head line n = either (k.Insert ∷ []) (insert head line n) (either (k.Select ∷ []) (select head line) commit)
 
 unfoldable pub statement_line : Script → List ℕ → ℕ → Parser (Option Event)
 statement_line script line n = do
   a ← expect k.Name
   expect k.Colon
-  x ← statement script.head line n
+  x ← any_statement script.head line n
   pure (stated script line a x)
 
 unfoldable pub end_line : Bool → Parser (Option Event)

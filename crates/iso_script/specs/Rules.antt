@@ -1,5 +1,5 @@
 -- The lines of a script of this stage: what may stand in each position, and what it stands for.
-use Rattle.std.specs.List.{list_any, range_with_len}
+use Rattle.std.specs.List.{list_any}
 use Rattle.std.specs.Option.{option_map, option_map_or}
 use Rattle.std.specs.Prelude.{◌≡◌, ℕ, ◌<◌, Bool, true, false, not, ◌&&◌, if◌then◌else◌, List, [], ◌∷◌, ◌++◌, map, length, find, nat_lt, nat_le, slice_get, Option, Some, None}
 use Rattle.iso_types.specs.Head.{row_fits}
@@ -85,12 +85,16 @@ knows_connection head line a = option_map_or (λ d. gives line a d.name) (slice_
 
 -- a column of this name stands in this place
 abbrev pub is_column : List Column → List ℕ → Token → ℕ → Bool
-is_column columns line c place = option_map_or (λ e. gives line c e.name) (slice_get columns place) false
+is_column columns line c at = option_map_or (λ e. gives line c e.name) (slice_get columns at) false
 
--- the place of the column that the token names, from 0
+-- where a column may stand
+abbrev pub places : List ℕ
+places = 0 ∷ 1 ∷ 2 ∷ 3 ∷ 4 ∷ 5 ∷ 6 ∷ 7 ∷ []
+
+-- the place of the column that the token names
 abbrev pub place_among : Option TableDef → List ℕ → Token → Option ℕ
 place_among None line c = None
-place_among (Some d) line c = find (is_column d.columns line c) (range_with_len 0 8)
+place_among (Some d) line c = find (is_column d.columns line c) places
 
 unfoldable pub place_of : Head → List ℕ → Token → Option ℕ
 place_of head line c = place_among (slice_get head.tables 0) line c
@@ -114,7 +118,7 @@ unfoldable pub inserted : Head → List ℕ → Token → List Token → Option 
 inserted head line t vs = if knows_table head line t then inserting head (all_some (map (value_of line) vs)) else None
 
 abbrev pub selecting : ℕ → Statement
-selecting place = statement.Select table0 (Columns (place ∷ [])) Always (Some Ur)
+selecting at = statement.Select table0 (Columns (at ∷ [])) Always (Some Ur)
 
 unfoldable pub selected : Head → List ℕ → Token → Token → Option Statement
 selected head line c t = if knows_table head line t then option_map selecting (place_of head line c) else None

@@ -1,6 +1,11 @@
 //! Scripts: head lines, body lines, and what each line asks for.
 #![tactic(auto)]
 
+mod fault;
+mod naming;
+mod reader;
+mod rules;
 mod script;
 
+pub use fault::{LineCause, ScriptFault};
 pub use script::{Line, Script, What};
