@@ -1,3 +1,4 @@
 pub mod Gathered
 pub mod RuleLaws
 pub mod ReadLaws
+pub mod BuiltLaws

@@ -91,3 +91,19 @@ refuse_here s t n line rest bytes (fault.BadLine m why) a so_far = go why a.2
       where
         no : cause.Limit p ≡ cause.Unbuilt → ⊥
         no e = cc
+
+-- each fault of a script of this stage is the same
+pub only_unbuilt : (texts : List (List ℕ)) (s : Reader) (n bad : ℕ) (why : LineCause) → BadFrom s n texts bad why → BadFrom s n texts bad cause.Unbuilt
+only_unbuilt texts s n bad why b = subst (λ (w : LineCause). BadFrom s n texts bad w) (is texts s n b) b
+  where
+    is : (texts : List (List ℕ)) (s : Reader) (n : ℕ) → BadFrom s n texts bad why → why ≡ cause.Unbuilt
+    is [] s n b = b.2
+    is (line ∷ texts) s n b = go (is_skipped line) b (λ t b. is texts t (n + 1) b)
+      where
+        go : (v : Bool) → MatchBool v (BadFrom s (n + 1) texts bad why) (((bad ≡ n) × wrong s line why) ⊎ ((e : Event) × fits s line e × BadFrom (advance s n e) (n + 1) texts bad why))
+            → ((t : Reader) → BadFrom t (n + 1) texts bad why → why ≡ cause.Unbuilt) → why ≡ cause.Unbuilt
+        go true b later = later s b
+        go false b later = elim b [
+          | inl w ↦ w.1.0
+          | inr x ↦ later (advance s n x.0) x.2
+        ]

@@ -3,9 +3,11 @@
 
 mod fault;
 mod naming;
+mod read;
 mod reader;
 mod rules;
 mod script;
 
 pub use fault::{LineCause, ScriptFault};
+pub use read::exactly_one;
 pub use script::{Line, Script, What};
