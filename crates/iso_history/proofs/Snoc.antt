@@ -1,7 +1,7 @@
 -- One more entry at the end of a history, and the induction along a history.
 use Rattle.std.proofs.Common.{◌≡◌, List, [], ◌∷◌, ◌++◌, refl}
 use Rattle.iso_types.specs.declared.head.Head.{Head}
-use Rattle.iso_history.specs.declared.Entry.{Entry}
+use Rattle.iso_history.specs.declared.entry.Entry.{Entry}
 use Rattle.iso_history.specs.World.{World}
 use Rattle.iso_history.specs.After.{after, start, world, world_from}
 use Rattle.iso_history.specs.Legal.{Allowed, Ground, GroundFrom}

@@ -14,7 +14,7 @@ use Rattle.iso_history.specs.Versions.{change_of, first_tables, tables_by}
 use Rattle.iso_history.specs.Waits.{joining_of, waits_by}
 use Rattle.iso_history.specs.World.{World}
 use Rattle.iso_history.specs.World.Last.{Other}
-use Rattle.iso_history.specs.declared.Entry.{Entry}
+use Rattle.iso_history.specs.declared.entry.Entry.{Entry}
 use Rattle.iso_types.specs.declared.head.Head.{Head}
 
 -- the world after one more entry

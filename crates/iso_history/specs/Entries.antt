@@ -4,10 +4,10 @@ use Rattle.std.specs.Option.{option_map_or}
 use Rattle.std.specs.Prelude.{ℕ, ◌+◌, Bool, true, false, not, ◌&&◌, ◌||◌, List, [], ◌∷◌, map, if◌then◌else◌, slice_index_or, slice_set, Some, None, filter, find, Option}
 use Rattle.iso_history.specs.Versions.{committed, is_pending, versions}
 use Rattle.iso_history.specs.World.{World}
-use Rattle.iso_history.specs.declared.Act.{Act}
-use Rattle.iso_history.specs.declared.Act.TheVariants.{Insert, Purge, Update}
-use Rattle.iso_history.specs.declared.Stand.{Stand}
-use Rattle.iso_history.specs.declared.Stand.TheVariants.{At, Past}
+use Rattle.iso_history.specs.declared.entry.Act.{Act}
+use Rattle.iso_history.specs.declared.entry.Act.TheVariants.{Insert, Purge, Update}
+use Rattle.iso_history.specs.declared.entry.Stand.{Stand}
+use Rattle.iso_history.specs.declared.entry.Stand.TheVariants.{At, Past}
 use Rattle.iso_types.specs.Head.{indexes, indexes_of, key_in, rows_of, table_of_index}
 use Rattle.iso_types.specs.Ids.{index_eq, name_eq, pair_eq, pair_lt}
 use Rattle.iso_types.specs.Value.{value_eq, value_lt}

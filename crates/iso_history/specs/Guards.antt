@@ -8,15 +8,15 @@ use Rattle.iso_history.specs.Looks.{shown}
 use Rattle.iso_history.specs.Settled.{settled_row}
 use Rattle.iso_history.specs.Versions.{is_changed_beside, is_dead, slot_list, versions}
 use Rattle.iso_history.specs.World.{Version, World}
-use Rattle.iso_history.specs.declared.Act.{Act}
-use Rattle.iso_history.specs.declared.Act.TheVariants.{Commit, Free, Look, Next, Rollback}
-use Rattle.iso_history.specs.declared.Entry.{Entry}
-use Rattle.iso_history.specs.declared.Got.{Got}
-use Rattle.iso_history.specs.declared.Stand.{Stand}
-use Rattle.iso_history.specs.declared.Stand.TheVariants.{At, Past}
-use Rattle.iso_history.specs.declared.Want.{Want}
-use Rattle.iso_history.specs.declared.Want.TheVariants.{Alter, AlterKept, Current, Repeat, Steady}
-use Rattle.iso_history.specs.declared.Who.TheVariants.{Agent, Dispatcher}
+use Rattle.iso_history.specs.declared.entry.Act.{Act}
+use Rattle.iso_history.specs.declared.entry.Act.TheVariants.{Commit, Free, Look, Next, Rollback}
+use Rattle.iso_history.specs.declared.entry.Entry.{Entry}
+use Rattle.iso_history.specs.declared.entry.Got.{Got}
+use Rattle.iso_history.specs.declared.entry.Stand.{Stand}
+use Rattle.iso_history.specs.declared.entry.Stand.TheVariants.{At, Past}
+use Rattle.iso_history.specs.declared.entry.Want.{Want}
+use Rattle.iso_history.specs.declared.entry.Want.TheVariants.{Alter, AlterKept, Current, Repeat, Steady}
+use Rattle.iso_history.specs.declared.entry.Who.TheVariants.{Agent, Dispatcher}
 use Rattle.iso_modes.specs.Modes.{compatible}
 use Rattle.iso_modes.specs.declared.Mode.TheVariants.{S}
 use Rattle.iso_queue.specs.Locks.{Hold, holds_at_least}

@@ -5,14 +5,14 @@ use Rattle.iso_history.specs.Entries.{found, guard, has_key, key_name}
 use Rattle.iso_history.specs.Versions.{is_dead, versions}
 use Rattle.iso_history.specs.World.{Last, World}
 use Rattle.iso_history.specs.World.Last.{Claimed}
-use Rattle.iso_history.specs.declared.Act.{Act}
-use Rattle.iso_history.specs.declared.Act.TheVariants.{Claim, Collapse, Commit, Free, Insert, Lock, Look, Next, Rollback, Update}
-use Rattle.iso_history.specs.declared.Got.{Got}
-use Rattle.iso_history.specs.declared.Stand.TheVariants.{At, Past}
-use Rattle.iso_history.specs.declared.Want.{Want}
-use Rattle.iso_history.specs.declared.Want.TheVariants.{Alter, AlterKept, Repeat, Steady}
-use Rattle.iso_history.specs.declared.Who.{Who}
-use Rattle.iso_history.specs.declared.Who.TheVariants.{Agent, Dispatcher}
+use Rattle.iso_history.specs.declared.entry.Act.{Act}
+use Rattle.iso_history.specs.declared.entry.Act.TheVariants.{Claim, Collapse, Commit, Free, Insert, Lock, Look, Next, Rollback, Update}
+use Rattle.iso_history.specs.declared.entry.Got.{Got}
+use Rattle.iso_history.specs.declared.entry.Stand.TheVariants.{At, Past}
+use Rattle.iso_history.specs.declared.entry.Want.{Want}
+use Rattle.iso_history.specs.declared.entry.Want.TheVariants.{Alter, AlterKept, Repeat, Steady}
+use Rattle.iso_history.specs.declared.entry.Who.{Who}
+use Rattle.iso_history.specs.declared.entry.Who.TheVariants.{Agent, Dispatcher}
 use Rattle.iso_modes.specs.Terms.{is_kept}
 use Rattle.iso_modes.specs.declared.Mode.{Mode}
 use Rattle.iso_modes.specs.declared.Mode.TheVariants.{Ns, S, U, X}

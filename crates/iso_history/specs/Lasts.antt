@@ -2,13 +2,13 @@
 use Rattle.std.specs.Prelude.{Some, None, Option}
 use Rattle.iso_history.specs.World.{Last, World, at_conn}
 use Rattle.iso_history.specs.World.Last.{Awaits, Claimed, Looked, Other}
-use Rattle.iso_history.specs.declared.Act.{Act}
-use Rattle.iso_history.specs.declared.Act.TheVariants.{Claim, Lock, Look}
-use Rattle.iso_history.specs.declared.Got.{Got}
-use Rattle.iso_history.specs.declared.Who.{Who}
-use Rattle.iso_history.specs.declared.Who.TheVariants.{Agent, Dispatcher}
-use Rattle.iso_history.specs.declared.Why.{Why}
-use Rattle.iso_history.specs.declared.Why.TheVariants.{Escalation}
+use Rattle.iso_history.specs.declared.entry.Act.{Act}
+use Rattle.iso_history.specs.declared.entry.Act.TheVariants.{Claim, Lock, Look}
+use Rattle.iso_history.specs.declared.entry.Got.{Got}
+use Rattle.iso_history.specs.declared.entry.Who.{Who}
+use Rattle.iso_history.specs.declared.entry.Who.TheVariants.{Agent, Dispatcher}
+use Rattle.iso_history.specs.declared.entry.Why.{Why}
+use Rattle.iso_history.specs.declared.entry.Why.TheVariants.{Escalation}
 use Rattle.iso_modes.specs.declared.Mode.{Mode}
 use Rattle.iso_types.specs.declared.value.Conn.{Conn}
 use Rattle.iso_types.specs.declared.value.Name.{Name}

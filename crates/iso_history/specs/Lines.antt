@@ -1,10 +1,10 @@
 -- Open statements.
 use Rattle.std.specs.Prelude.{ℕ, Some, None, Option}
 use Rattle.iso_history.specs.World.{at_conn}
-use Rattle.iso_history.specs.declared.Act.{Act}
-use Rattle.iso_history.specs.declared.Act.TheVariants.{Commit, Dispatch, Reply, Rollback}
-use Rattle.iso_history.specs.declared.Who.{Who}
-use Rattle.iso_history.specs.declared.Who.TheVariants.{Agent, Dispatcher}
+use Rattle.iso_history.specs.declared.entry.Act.{Act}
+use Rattle.iso_history.specs.declared.entry.Act.TheVariants.{Commit, Dispatch, Reply, Rollback}
+use Rattle.iso_history.specs.declared.entry.Who.{Who}
+use Rattle.iso_history.specs.declared.entry.Who.TheVariants.{Agent, Dispatcher}
 use Rattle.iso_types.specs.declared.value.Conn.{Conn}
 
 -- what an entry does to open statements: a statement is open from its Dispatch to the next Reply, Commit, Rollback or Ended

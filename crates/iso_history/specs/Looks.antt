@@ -7,9 +7,9 @@ use Rattle.iso_history.specs.Requests.{Outcome, asking, is_had, may_ask, request
 use Rattle.iso_history.specs.Requests.Outcome.{Gives}
 use Rattle.iso_history.specs.Versions.{first_record, is_changed_beside, is_dead, present, slots, versions, view}
 use Rattle.iso_history.specs.World.{World}
-use Rattle.iso_history.specs.declared.Got.{Got}
-use Rattle.iso_history.specs.declared.Want.{Want}
-use Rattle.iso_history.specs.declared.Want.TheVariants.{Current, Dirty}
+use Rattle.iso_history.specs.declared.entry.Got.{Got}
+use Rattle.iso_history.specs.declared.entry.Want.{Want}
+use Rattle.iso_history.specs.declared.entry.Want.TheVariants.{Current, Dirty}
 use Rattle.iso_modes.specs.declared.Mode.{Mode}
 use Rattle.iso_modes.specs.declared.Mode.TheVariants.{Ns}
 use Rattle.iso_queue.specs.Locks.{holds_at_least}

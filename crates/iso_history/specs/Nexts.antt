@@ -5,8 +5,8 @@ use Rattle.iso_history.specs.Holds.{next_name}
 use Rattle.iso_history.specs.Requests.{Outcome, may_ask, request}
 use Rattle.iso_history.specs.Requests.Outcome.{Gives, Limit}
 use Rattle.iso_history.specs.World.{World}
-use Rattle.iso_history.specs.declared.Got.{Got}
-use Rattle.iso_history.specs.declared.Stand.{Stand}
+use Rattle.iso_history.specs.declared.entry.Got.{Got}
+use Rattle.iso_history.specs.declared.entry.Stand.{Stand}
 use Rattle.iso_modes.specs.declared.Mode.TheVariants.{S}
 use Rattle.iso_types.specs.Head.{is_index}
 use Rattle.iso_types.specs.declared.head.Head.{Head}

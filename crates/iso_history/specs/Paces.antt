@@ -1,10 +1,10 @@
 -- The dispatcher's own state.
 use Rattle.std.specs.Prelude.{Bool, true, false, ◌||◌}
 use Rattle.iso_history.specs.World.{Pace}
-use Rattle.iso_history.specs.declared.Act.{Act}
-use Rattle.iso_history.specs.declared.Act.TheVariants.{Finish, Purge, Stopped}
-use Rattle.iso_history.specs.declared.Who.{Who}
-use Rattle.iso_history.specs.declared.Who.TheVariants.{Agent, Dispatcher}
+use Rattle.iso_history.specs.declared.entry.Act.{Act}
+use Rattle.iso_history.specs.declared.entry.Act.TheVariants.{Finish, Purge, Stopped}
+use Rattle.iso_history.specs.declared.entry.Who.{Who}
+use Rattle.iso_history.specs.declared.entry.Who.TheVariants.{Agent, Dispatcher}
 
 -- the act is a Purge
 abbrev pub is_purge : Act → Bool

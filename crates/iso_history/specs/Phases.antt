@@ -1,15 +1,15 @@
 -- Phases.
 use Rattle.std.specs.List.{list_all}
 use Rattle.std.specs.Option.{option_map_or}
-use Rattle.std.specs.Prelude.{ℕ, Bool, true, ◌&&◌, ◌||◌, List, is_some, is_none, if◌then◌else◌, nat_le, ◌==◌, Some, None, find, Option}
+use Rattle.std.specs.Prelude.{ℕ, Bool, true, false, ◌&&◌, ◌||◌, List, is_some, is_none, if◌then◌else◌, nat_le, ◌==◌, Some, None, find, Option}
 use Rattle.iso_history.specs.Units.{unit_of}
 use Rattle.iso_history.specs.World.{World, at_conn}
-use Rattle.iso_history.specs.declared.Act.{Act}
-use Rattle.iso_history.specs.declared.Act.TheVariants.{Close, Expire, Lock, Look, Next, Rollback, Stopped, Victim}
-use Rattle.iso_history.specs.declared.Got.{Got}
-use Rattle.iso_history.specs.declared.Stand.{Stand}
-use Rattle.iso_history.specs.declared.Who.{Who}
-use Rattle.iso_history.specs.declared.Who.TheVariants.{Agent, Dispatcher}
+use Rattle.iso_history.specs.declared.entry.Act.{Act}
+use Rattle.iso_history.specs.declared.entry.Act.TheVariants.{Close, Expire, Lock, Look, Next, Rollback, Stopped, Victim}
+use Rattle.iso_history.specs.declared.entry.Got.{Got}
+use Rattle.iso_history.specs.declared.entry.Stand.{Stand}
+use Rattle.iso_history.specs.declared.entry.Who.{Who}
+use Rattle.iso_history.specs.declared.entry.Who.TheVariants.{Agent, Dispatcher}
 use Rattle.iso_queue.specs.Queues.{is_grantable, is_waiting}
 use Rattle.iso_types.specs.declared.desk.Phase.{Phase}
 use Rattle.iso_types.specs.declared.desk.Phase.TheVariants.{Closing, Idle, Rolling, Running}
@@ -62,14 +62,18 @@ abbrev pub ended_by : (Conn → Bool) → Who → Act → Conn → Bool
 ended_by f (Agent c) Act.Ended = at_conn f c true
 ended_by f _ _ = f
 
--- the first of these that fits
+-- the first of these that fits: it has ended, it closes, it is doomed, it waits, no statement of it is open
+abbrev pub phase_of : Bool → Bool → Bool → Bool → Bool → Phase
+phase_of true closing doomed waiting shut = Phase.Ended
+phase_of false true doomed waiting shut = Closing
+phase_of false false true waiting shut = Rolling
+phase_of false false false true shut = Phase.Waiting
+phase_of false false false false true = Idle
+phase_of false false false false false = Running
+
+-- the phase of a connection
 abbrev pub phase : World → Conn → Phase
-phase w c =
-    if w.ended c then Phase.Ended else
-    if w.closing c then Closing else
-    if is_some (w.doom c) then Rolling else
-    if is_waiting w.waits c then Phase.Waiting else
-    if is_none (w.line c) then Idle else Running
+phase w c = phase_of (w.ended c) (w.closing c) (is_some (w.doom c)) (is_waiting w.waits c) (is_none (w.line c))
 
 -- the place of a phase
 abbrev pub phase_number : Phase → ℕ

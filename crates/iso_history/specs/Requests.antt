@@ -4,7 +4,7 @@ use Rattle.std.specs.Prelude.{ℕ, Bool, true, false, not, ◌&&◌, ◌||◌, i
 use Rattle.iso_history.specs.Entries.{has_key}
 use Rattle.iso_history.specs.Versions.{slots}
 use Rattle.iso_history.specs.World.{World}
-use Rattle.iso_history.specs.declared.Got.{Got}
+use Rattle.iso_history.specs.declared.entry.Got.{Got}
 use Rattle.iso_modes.specs.Modes.{escalated, mode_eq}
 use Rattle.iso_modes.specs.declared.Mode.{Mode}
 use Rattle.iso_modes.specs.declared.Mode.TheVariants.{Is, Ix, Ns, Nw, S, Six, U, X}

@@ -2,10 +2,10 @@
 use Rattle.std.specs.Option.{option_map_or}
 use Rattle.std.specs.Prelude.{true, slice_get}
 use Rattle.iso_history.specs.World.{Setting, at_conn}
-use Rattle.iso_history.specs.declared.Act.{Act}
-use Rattle.iso_history.specs.declared.Act.TheVariants.{Set}
-use Rattle.iso_history.specs.declared.Who.{Who}
-use Rattle.iso_history.specs.declared.Who.TheVariants.{Agent, Dispatcher}
+use Rattle.iso_history.specs.declared.entry.Act.{Act}
+use Rattle.iso_history.specs.declared.entry.Act.TheVariants.{Set}
+use Rattle.iso_history.specs.declared.entry.Who.{Who}
+use Rattle.iso_history.specs.declared.entry.Who.TheVariants.{Agent, Dispatcher}
 use Rattle.iso_types.specs.declared.head.Head.{Head}
 use Rattle.iso_types.specs.declared.head.Isolation.TheVariants.{Cs}
 use Rattle.iso_types.specs.declared.value.Conn.{Conn}

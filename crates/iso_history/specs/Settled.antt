@@ -1,10 +1,10 @@
 -- The settled row, told without version lists.
 use Rattle.std.specs.Option.{option_map_or}
 use Rattle.std.specs.Prelude.{ℕ, ◌+◌, not, ◌&&◌, List, [], ◌∷◌, ◌==◌, slice_get, Some, None, filter, find, Option}
-use Rattle.iso_history.specs.declared.Act.{Act}
-use Rattle.iso_history.specs.declared.Act.TheVariants.{Commit, Delete, Insert, Rollback, Undo, Update}
-use Rattle.iso_history.specs.declared.Entry.{Entry}
-use Rattle.iso_history.specs.declared.Who.TheVariants.{Agent, Dispatcher}
+use Rattle.iso_history.specs.declared.entry.Act.{Act}
+use Rattle.iso_history.specs.declared.entry.Act.TheVariants.{Commit, Delete, Insert, Rollback, Undo, Update}
+use Rattle.iso_history.specs.declared.entry.Entry.{Entry}
+use Rattle.iso_history.specs.declared.entry.Who.TheVariants.{Agent, Dispatcher}
 use Rattle.iso_types.specs.Head.{rows_of}
 use Rattle.iso_types.specs.Ids.{conn_eq, rid_eq, table_eq}
 use Rattle.iso_types.specs.declared.head.Head.{Head}

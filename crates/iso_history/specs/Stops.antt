@@ -6,11 +6,11 @@ use Rattle.iso_history.specs.Phases.{is_phase, phase, waits_grantable}
 use Rattle.iso_history.specs.Records.{left_of}
 use Rattle.iso_history.specs.Versions.{slots}
 use Rattle.iso_history.specs.World.{Pace, World}
-use Rattle.iso_history.specs.declared.Act.{Act}
-use Rattle.iso_history.specs.declared.Act.TheVariants.{Close, Commit, Expire, Finish, Rollback, Stopped, Undo, Victim}
-use Rattle.iso_history.specs.declared.Cause.{Cause}
-use Rattle.iso_history.specs.declared.Cause.TheVariants.{History, Memory}
-use Rattle.iso_history.specs.declared.Entry.{Entry}
+use Rattle.iso_history.specs.declared.entry.Act.{Act}
+use Rattle.iso_history.specs.declared.entry.Act.TheVariants.{Close, Commit, Expire, Finish, Rollback, Stopped, Undo, Victim}
+use Rattle.iso_history.specs.declared.entry.Cause.{Cause}
+use Rattle.iso_history.specs.declared.entry.Cause.TheVariants.{History, Memory}
+use Rattle.iso_history.specs.declared.entry.Entry.{Entry}
 use Rattle.iso_types.specs.Head.{conns, tables}
 use Rattle.iso_types.specs.declared.desk.Phase.{Phase}
 use Rattle.iso_types.specs.declared.desk.Phase.TheVariants.{Closing, Idle, Rolling, Running}

@@ -3,10 +3,10 @@ use Rattle.std.specs.List.{list_any}
 use Rattle.std.specs.Option.{option_map_or}
 use Rattle.std.specs.Prelude.{ℕ, ◌+◌, Bool, false, is_some, if◌then◌else◌, ◌==◌, Some, None, Option, unwrap_or}
 use Rattle.iso_history.specs.World.{World, at_conn}
-use Rattle.iso_history.specs.declared.Act.{Act}
-use Rattle.iso_history.specs.declared.Act.TheVariants.{Commit, Dispatch, Rollback}
-use Rattle.iso_history.specs.declared.Who.{Who}
-use Rattle.iso_history.specs.declared.Who.TheVariants.{Agent, Dispatcher}
+use Rattle.iso_history.specs.declared.entry.Act.{Act}
+use Rattle.iso_history.specs.declared.entry.Act.TheVariants.{Commit, Dispatch, Rollback}
+use Rattle.iso_history.specs.declared.entry.Who.{Who}
+use Rattle.iso_history.specs.declared.entry.Who.TheVariants.{Agent, Dispatcher}
 use Rattle.iso_types.specs.Head.{conns}
 use Rattle.iso_types.specs.declared.head.Head.{Head}
 use Rattle.iso_types.specs.declared.value.Conn.{Conn}

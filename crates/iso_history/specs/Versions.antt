@@ -3,8 +3,8 @@ use Rattle.std.specs.List.{list_any}
 use Rattle.std.specs.Prelude.{ℕ, Bool, true, false, not, ◌&&◌, List, [], ◌∷◌, ◌++◌, map, length, is_none, if◌then◌else◌, ◌==◌, slice_index_or, slice_set, Some, None, filter, Option}
 use Rattle.iso_history.specs.Units.{unit_of}
 use Rattle.iso_history.specs.World.{Version, World}
-use Rattle.iso_history.specs.declared.Act.{Act}
-use Rattle.iso_history.specs.declared.Act.TheVariants.{Commit, Delete, Insert, Undo, Update}
+use Rattle.iso_history.specs.declared.entry.Act.{Act}
+use Rattle.iso_history.specs.declared.entry.Act.TheVariants.{Commit, Delete, Insert, Undo, Update}
 use Rattle.iso_types.specs.Head.{rows_of, tables}
 use Rattle.iso_types.specs.declared.head.Head.{Head}
 use Rattle.iso_types.specs.declared.value.Conn.{Conn}

@@ -3,14 +3,14 @@ use Rattle.std.specs.Option.{option_map_or}
 use Rattle.std.specs.Prelude.{true, List}
 use Rattle.iso_history.specs.Phases.{victim}
 use Rattle.iso_history.specs.World.{World}
-use Rattle.iso_history.specs.declared.Act.{Act}
-use Rattle.iso_history.specs.declared.Act.TheVariants.{Claim, Commit, Expire, Lock, Look, Next, Rollback, Stopped, Victim}
-use Rattle.iso_history.specs.declared.Got.{Got}
-use Rattle.iso_history.specs.declared.Stand.{Stand}
-use Rattle.iso_history.specs.declared.Want.{Want}
-use Rattle.iso_history.specs.declared.Want.TheVariants.{Alter, AlterKept, Repeat, Steady}
-use Rattle.iso_history.specs.declared.Who.{Who}
-use Rattle.iso_history.specs.declared.Who.TheVariants.{Agent, Dispatcher}
+use Rattle.iso_history.specs.declared.entry.Act.{Act}
+use Rattle.iso_history.specs.declared.entry.Act.TheVariants.{Claim, Commit, Expire, Lock, Look, Next, Rollback, Stopped, Victim}
+use Rattle.iso_history.specs.declared.entry.Got.{Got}
+use Rattle.iso_history.specs.declared.entry.Stand.{Stand}
+use Rattle.iso_history.specs.declared.entry.Want.{Want}
+use Rattle.iso_history.specs.declared.entry.Want.TheVariants.{Alter, AlterKept, Repeat, Steady}
+use Rattle.iso_history.specs.declared.entry.Who.{Who}
+use Rattle.iso_history.specs.declared.entry.Who.TheVariants.{Agent, Dispatcher}
 use Rattle.iso_modes.specs.declared.Mode.TheVariants.{S}
 use Rattle.iso_modes.specs.declared.Term.{Term}
 use Rattle.iso_modes.specs.declared.Term.TheVariants.{Brief, Fresh, Kept}

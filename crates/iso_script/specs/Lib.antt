@@ -1,4 +1,5 @@
 pub mod Built
+pub mod Numbered
 pub mod Rules
 pub mod Reading
 pub mod RuleReading

@@ -1,10 +1,11 @@
-ghost use Rattle.std.specs.Prelude.{◌≡◌, ◌*◌, ◌≤◌};
+ghost use Rattle.std.specs.Prelude.{◌≡◌, ◌*◌, ◌≤◌, IfOk};
 ghost use Rattle.iso_types.specs.Head.{lock_slots, lock_share};
 
-use crate::items::Items;
+use crate::items::{Items, Memory};
 use crate::row::Row;
 use crate::text::Text;
 use crate::value::{TableId, Value};
+use std::alloc::Global;
 
 /// An isolation level. Db2 LUW, 'Isolation levels'.
 #[derive(Clone, Copy, PartialEq, Eq)]
@@ -24,7 +25,7 @@ pub enum ColumnKind {
 }
 
 /// A column; a required one is NOT NULL.
-#[derive(Drop)]
+#[derive(Clone, Copy)]
 pub struct Column {
     pub name: Text,
     pub kind: ColumnKind,
@@ -39,7 +40,7 @@ pub struct TableDef {
 }
 
 /// A declared index on one required column of its table, by the column's place.
-#[derive(Drop)]
+#[derive(Clone, Copy)]
 pub struct IndexDef {
     pub name: Text,
     pub table: TableId,
@@ -48,7 +49,7 @@ pub struct IndexDef {
 }
 
 /// A declared connection with the level of its CONNECT line.
-#[derive(Drop)]
+#[derive(Clone, Copy)]
 pub struct ConnDef {
     pub name: Text,
     pub isolation: Isolation,
@@ -113,5 +114,66 @@ impl Config {
     {
         let all = u64::from(self.slots()) * u64::from(self.maxlocks);
         (all / 100) as u32
+    }
+}
+
+impl TableDef {
+    /// The same table in memory of its own; `Memory` where there is none. It copies each column.
+    pub fn copied(&self, alloc: Global) -> Result<TableDef, Memory>
+        ensures { IfOk result (λ table. table ≡ self.now) }
+    {
+        Ok(TableDef {
+            name: self.name,
+            columns: self.columns.copied(alloc)?,
+        })
+    }
+}
+
+impl FirstRow {
+    /// The same row in memory of its own; `Memory` where there is none. It copies each value.
+    pub fn copied(&self, alloc: Global) -> Result<FirstRow, Memory>
+        ensures { IfOk result (λ first. first ≡ self.now) }
+    {
+        Ok(FirstRow {
+            table: self.table,
+            row: self.row.copied(alloc)?,
+        })
+    }
+}
+
+/// The same tables in memory of their own; `Memory` where there is none.
+fn copied_tables(alloc: Global, tables: &Items<TableDef>) -> Result<Items<TableDef>, Memory>
+    ensures { IfOk result (λ copies. copies ≡ tables.now) }
+{
+    let mut copies = Items::new(alloc);
+    for table in tables.as_slice() {
+        copies.push(table.copied(alloc)?)?;
+    }
+    Ok(copies)
+}
+
+/// The same rows in memory of their own; `Memory` where there is none.
+fn copied_rows(alloc: Global, rows: &Items<FirstRow>) -> Result<Items<FirstRow>, Memory>
+    ensures { IfOk result (λ copies. copies ≡ rows.now) }
+{
+    let mut copies = Items::new(alloc);
+    for first in rows.as_slice() {
+        copies.push(first.copied(alloc)?)?;
+    }
+    Ok(copies)
+}
+
+impl Head {
+    /// The same head in memory of its own; `Memory` where there is none. It copies all that was declared.
+    pub fn copied(&self, alloc: Global) -> Result<Head, Memory>
+        ensures { IfOk result (λ head. head ≡ self.now) }
+    {
+        Ok(Head {
+            config: self.config,
+            tables: copied_tables(alloc, &self.tables)?,
+            indexes: self.indexes.copied(alloc)?,
+            rows: copied_rows(alloc, &self.rows)?,
+            conns: self.conns.copied(alloc)?,
+        })
     }
 }

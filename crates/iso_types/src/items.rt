@@ -114,6 +114,14 @@ impl<T> Items<T> {
 }
 
 impl<T: Copy> Items<T> {
+    /// The same list in memory of its own; `Memory` where there is none. It copies each item.
+    pub fn copied(&self, alloc: Global) -> Result<Items<T>, Memory>
+        ensures { IfOk result (λ items. items ≡ self.now) }
+    {
+        let items = Vec::from_slice(alloc, self.items.as_slice())?;
+        Ok(Items { items })
+    }
+
     /// A copy of the item is last.
     pub fn push_copy(&mut self, item: &T) -> Result<(), Memory>
         ensures ok { OnOk result (self.new ≡ self.old ++ item.now ∷ []) }

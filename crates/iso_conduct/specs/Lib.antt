@@ -1,0 +1,4 @@
+pub mod Points
+pub mod Conduct
+pub mod Pacing
+pub mod Legal

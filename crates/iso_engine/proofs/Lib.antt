@@ -1,0 +1,6 @@
+pub mod Ways
+pub mod Turns
+pub mod Ends
+pub mod Lines
+pub mod Carry
+pub mod Looks

@@ -1,0 +1,5 @@
+pub mod Seen
+pub mod Rule
+pub mod Told
+pub mod Dealt
+pub mod Sent

@@ -1,0 +1,127 @@
+ghost use Rattle.std.specs.Prelude.{◌≡◌, [], IfOk, OnErr, OnOk, if◌then◌else◌};
+ghost use Rattle.iso_queue.specs.Lines.{Line, asked, claimed, edges_of, hold_of, is_granted, is_grantable, unheld, unqueued};
+ghost use Rattle.iso_queue.specs.declared.types.Asked.{Asked as Outcome};
+ghost use Rattle.iso_queue.specs.declared.types.Claimed.{Claimed as Answer};
+
+use crate::lists;
+use crate::types::{Asked, Claimed, Hold, Waiter};
+use iso_modes::{Mode, Term};
+use iso_types::{Conn, Edges, Memory};
+use std::alloc::Global;
+use std::marker::Model;
+
+/// The holders of one name, and its waiters in queue order. Each call costs at most the number of both.
+#[derive(Drop)]
+pub struct Queue {
+    holders: Vec<Hold>,
+    waiters: Vec<Waiter>,
+}
+
+impl Model for Queue {
+    ghost use Rattle.std.specs.Prelude.{◌+◌, ◌≤◌, vec_len, vec_capacity};
+    ghost use Rattle.iso_queue.specs.Lines.{Line};
+
+    ghost Value = { Line };
+
+    ghost view = { λ q. record { holders = q.holders.items; waiters = q.waiters.items } };
+
+    ghost invariant = { λ q. vec_len q.holders + vec_len q.waiters ≤ vec_capacity q.holders };
+}
+
+impl Queue {
+    /// A queue that nobody stands in; it keeps the allocator.
+    pub fn new(alloc: Global) -> Queue
+        ensures holders { result.holders ≡ [] }
+        ensures waiters { result.waiters ≡ [] }
+    {
+        Queue {
+            holders: Vec::new(alloc),
+            waiters: Vec::new(alloc),
+        }
+    }
+
+    /// The connection's hold.
+    pub fn hold(&self, conn: Conn) -> Option<Hold>
+        ensures { result ≡ hold_of self.now.holders conn }
+    {
+        lists::find_hold(&self.holders, conn)
+    }
+
+    /// Whether a request for the mode would be granted at once: where its target is the held mode, or it would have
+    /// no edge as last of the queue, a conversion as last of the conversions.
+    pub fn would_grant(&self, conn: Conn, mode: Mode) -> bool
+        ensures { result ≡ is_granted self.now conn mode }
+    {
+        lists::grants(&self.holders, &self.waiters, conn, mode)
+    }
+
+    /// Requests the mode. `Granted`: the connection holds it, with what it held before. `Queued`: the connection waits,
+    /// before the waiting new requests where it holds the name, else last; room for its later hold is reserved.
+    /// A term that was Kept stays Kept. `Memory`: want of memory, and nothing changed.
+    pub fn ask(&mut self, conn: Conn, mode: Mode, term: Term) -> Result<Asked, Memory>
+        ensures answer { IfOk result (λ a. a ≡ (if is_granted self.old conn mode then Outcome.Granted else Outcome.Queued)) }
+        ensures line { OnOk result (self.new ≡ asked self.old conn mode term) }
+        ensures err { OnErr result (self.new ≡ self.old) }
+    {
+        if lists::grants(&self.holders, &self.waiters, conn, mode) {
+            self.holders.reserve(self.waiters.len() + 1)?;
+            lists::grant(&mut self.holders, Hold { conn, mode, term });
+            return Ok(Asked::Granted);
+        }
+        let target = lists::target(&self.holders, conn, mode);
+        let wait = Waiter { conn, target, term };
+        let at = lists::place_in_queue(&self.holders, &self.waiters, wait);
+        self.holders.reserve(self.waiters.len() + 1)?;
+        self.waiters.insert(at, wait)?;
+        Ok(Asked::Queued)
+    }
+
+    /// Grants the connection's wait where it has no edge, in the room that was reserved; else nothing changes.
+    /// `NotYet`: the wait has an edge, or the connection does not wait here. It takes no memory.
+    pub fn claim(&mut self, conn: Conn) -> Claimed
+        ensures answer { result ≡ (if is_grantable self.old conn then Answer.Granted else Answer.NotYet) }
+        ensures line { self.new ≡ claimed self.old conn }
+    {
+        let Some(wait) = lists::find_waiter(&self.waiters, conn) else {
+            return Claimed::NotYet;
+        };
+        if lists::is_stuck(&self.holders, &self.waiters, wait) {
+            return Claimed::NotYet;
+        }
+        let new = Hold {
+            conn,
+            mode: wait.target,
+            term: wait.term,
+        };
+        lists::unqueue(&mut self.waiters, conn);
+        lists::grant(&mut self.holders, new);
+        Claimed::Granted
+    }
+
+    /// The connection's hold goes. It takes no memory.
+    pub fn release(&mut self, conn: Conn)
+        ensures holders { self.new.holders ≡ unheld conn self.old.holders }
+        ensures waiters { self.new.waiters ≡ self.old.waiters }
+    {
+        lists::unhold(&mut self.holders, conn);
+    }
+
+    /// The connection's wait goes. It takes no memory.
+    pub fn cancel(&mut self, conn: Conn)
+        ensures holders { self.new.holders ≡ self.old.holders }
+        ensures waiters { self.new.waiters ≡ unqueued conn self.old.waiters }
+    {
+        lists::unqueue(&mut self.waiters, conn);
+    }
+
+    /// The connections to which the connection's wait has an edge: each other holder in a mode that does not go with
+    /// the target, and each earlier waiter.
+    pub fn edges(&self, conn: Conn) -> Edges
+        ensures { result.0 ≡ edges_of self.now conn }
+    {
+        match lists::find_waiter(&self.waiters, conn) {
+            Some(wait) => Edges(lists::edge_bits(&self.holders, &self.waiters, wait)),
+            None => Edges(0),
+        }
+    }
+}

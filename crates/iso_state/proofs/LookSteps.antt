@@ -1,0 +1,83 @@
+-- The parts after a look.
+use Rattle.std.proofs.Common.{◌≡◌, ◌<◌, ◌≤◌, ◌⊎◌, inl, inr, ℕ, Bool, true, false, List, [], length, map, refl, ap, sym, ◌∙◌, arith, Some, None, Option, get_or, if◌then◌else◌}
+use Rattle.std.specs.Prelude.{nat_lt, slice_get}
+use Rattle.std.proofs.lemmas.Bool.Decides.{nat_tests}
+use Rattle.std.proofs.lemmas.Option.{slice_get-get_or, slice_get_cases}
+use Rattle.iso_types.specs.Head.{is_table}
+use Rattle.iso_types.specs.declared.desk.Phase.TheVariants.{Running}
+use Rattle.iso_types.specs.declared.head.Head.{Head}
+use Rattle.iso_types.specs.declared.value.Conn.{Conn}
+use Rattle.iso_types.specs.declared.value.Rid.{Rid}
+use Rattle.iso_types.specs.declared.value.TableId.{TableId}
+use Rattle.iso_types.specs.declared.value.Value.{Value}
+use Rattle.iso_history.specs.After.{world}
+use Rattle.iso_history.specs.Makers.{by_agent}
+use Rattle.iso_history.specs.Phases.{phase}
+use Rattle.iso_history.specs.Versions.{present, slots, versions}
+use Rattle.iso_history.specs.World.{World}
+use Rattle.iso_history.specs.declared.entry.Act.TheVariants.{Look, ScanEnd}
+use Rattle.iso_history.specs.declared.entry.Got.TheVariants.{Granted}
+use Rattle.iso_history.specs.declared.entry.Want.{Want}
+use Rattle.iso_history.specs.declared.entry.Want.TheVariants.{Dirty}
+use Rattle.iso_state.specs.Changes.{noted, rows_at}
+use Rattle.iso_state.specs.Looks.{act_of, look_act, looked_at, looked_of}
+use Rattle.iso_state.specs.Stands.{Content, Stands}
+use Rattle.iso_state.specs.declared.answers.Looked.{Looked}
+use Rattle.iso_state.specs.declared.answers.Looked.TheVariants.{EndOfTable, Shown}
+use Rattle.iso_state.proofs.Seats.{conn-is, is-open, note-stands}
+use Rattle.iso_state.proofs.Tables.{row-is, slots-are}
+
+-- a table of the head, as a test
+pub table-is : (head : Head) (t : TableId) → t.0 < length head.tables → is_table head t ≡ true
+table-is head t lt = grind (arith, nat_tests)
+
+-- what is not there
+slice_get-none : {X : Type 0} (xs : List X) (i : ℕ) → length xs ≤ i → slice_get xs i ≡ None
+slice_get-none {X} xs i le = go (slice_get_cases xs i).1
+  where
+    go : ((x : X) × (i < length xs) × (slice_get xs i ≡ Some x) × (get_or xs i x ≡ x)) ⊎ ((length xs ≤ i) × (slice_get xs i ≡ None)) → slice_get xs i ≡ None
+    go (inl h) = absurd (omega (arith, h.1, le))
+    go (inr h) = h.1
+
+module _ (w : World) (tables : List (List (List Value))) (shown : map (map present) w.tables ≡ map (map Some) tables) where
+  pub looked-is : (t : TableId) (r : Rid) → looked_at tables t r ≡ looked_of w t r
+  looked-is t r = go (nat_lt r.0 (slots w t)) refl
+    where
+      go : (b : Bool) → nat_lt r.0 (slots w t) ≡ b
+          → looked_at tables t r ≡ (if b then Shown (present (versions w t r)) else EndOfTable)
+      go true e =
+          let k = slots-are w tables shown t in
+          let lt : r.0 < length (rows_at tables t) = grind (arith, nat_tests, k, e) in
+          ap (λ (o : Option (List Value)). elim o [ None ↦ EndOfTable | Some row ↦ Shown (Some row) ]) (slice_get-get_or (rows_at tables t) r.0 [] lt)
+          ∙ ap Shown (sym (row-is w tables shown t r lt))
+      go false e =
+          let k = slots-are w tables shown t in
+          let le : length (rows_at tables t) ≤ r.0 = grind (arith, nat_tests, k, e) in
+          ap (λ (o : Option (List Value)). elim o [ None ↦ EndOfTable | Some row ↦ Shown (Some row) ]) (slice_get-none (rows_at tables t) r.0 le)
+
+  pub act-is : (t : TableId) (r : Rid) (want : Want) → r.0 ≤ slots w t → want ≡ Dirty → act_of (looked_of w t r) t r want ≡ look_act w t r
+  act-is t r want le dirty = go (nat_lt r.0 (slots w t)) refl
+    where
+      go : (b : Bool) → nat_lt r.0 (slots w t) ≡ b
+          → act_of (if b then Shown (present (versions w t r)) else EndOfTable) t r want ≡ (if b then Look t r Dirty Granted else ScanEnd t (slots w t))
+      go true e = ap (λ (x : Want). Look t r x Granted) dirty
+      go false e = let k : r.0 ≡ slots w t = grind (arith, nat_tests, e, le) in ap (ScanEnd t) k
+
+  -- the act of what was found in the parts
+  pub act-found : (looked : Looked) (t : TableId) (r : Rid) (want : Want) → looked ≡ looked_at tables t r → r.0 ≤ slots w t → want ≡ Dirty
+      → act_of looked t r want ≡ look_act w t r
+  act-found looked t r want is le dirty = ap (λ (l : Looked). act_of l t r want) (is ∙ looked-is t r) ∙ act-is t r want le dirty
+
+pub look-stands : (p : Content) (c : Conn) (t : TableId) (r : Rid) → Stands p → c.0 < length p.head.conns
+    → (world p.head p.history).pace.finished ≡ false → phase (world p.head p.history) c ≡ Running → t.0 < length p.head.tables
+    → Stands (noted p (by_agent c (look_act (world p.head p.history) t r)))
+look-stands p c t r s lt free running within = go (nat_lt r.0 (slots (world p.head p.history) t)) refl
+  where
+    go : (b : Bool) → nat_lt r.0 (slots (world p.head p.history) t) ≡ b
+        → Stands (noted p (by_agent c (if b then Look t r Dirty Granted else ScanEnd t (slots (world p.head p.history) t))))
+    go true e =
+        note-stands p (by_agent c (Look t r Dirty Granted)) s (record { shows = refl; waits = s.parts.waits; phases = λ d. refl })
+        (is-open (world p.head p.history) free, (conn-is p.head c lt, (running, (table-is p.head t within, e))))
+    go false e =
+        note-stands p (by_agent c (ScanEnd t (slots (world p.head p.history) t))) s (record { shows = refl; waits = s.parts.waits; phases = λ d. refl })
+        (is-open (world p.head p.history) free, (conn-is p.head c lt, (running, table-is p.head t within, refl)))

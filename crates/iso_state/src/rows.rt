@@ -1,0 +1,158 @@
+ghost use Rattle.std.specs.Prelude.{◌≡◌, ◌≤◌, ◌<◌, ◌↔◌, ◌++◌, [], ◌∷◌, length, slice_set, false, IsTrue, IfOk, OnOk, OnErr};
+ghost use Rattle.iso_types.specs.Head.{row_fits};
+ghost use Rattle.iso_types.specs.declared.desk.Phase.TheVariants.{Running};
+ghost use Rattle.iso_history.specs.Makers.{by_agent};
+ghost use Rattle.iso_history.specs.Phases.{phase};
+ghost use Rattle.iso_history.specs.Versions.{next_rid, slots};
+ghost use Rattle.iso_state.specs.Changes.{inserted, rows_at};
+ghost use Rattle.iso_state.specs.Looks.{act_of, look_act, looked_at, looked_of};
+ghost use Rattle.iso_state.specs.Stands.{StandsFor, content_of, world_of};
+
+use crate::answers::{Looked, Written};
+use crate::changes::{make_room, note};
+use crate::parts::Parts;
+use iso_history::{Act, Entry, Got, Want, Who};
+use iso_types::{Conn, Items, Memory, Rid, Row, Rows, TableId};
+use std::alloc::Global;
+
+/// A copy of the row of a slot, or the end of the table where it has no such slot.
+fn looked(parts: &Parts, alloc: Global, table: TableId, rid: Rid) -> Result<Looked, Memory>
+    requires { table.0 < length parts.now.tables }
+    ensures { IfOk result (λ a. a ≡ looked_at parts.now.tables table rid) }
+{
+    let rows = &parts.tables.as_slice()[table.0 as usize];
+    match rows.get(rid.0 as usize) {
+        Some(row) => Ok(Looked::Shown(Some(row.copied(alloc)?))),
+        None => Ok(Looked::EndOfTable),
+    }
+}
+
+/// The act of a look that showed this.
+fn act_of_look(looked: &Looked, table: TableId, rid: Rid, want: Want) -> Act
+    ensures { result ≡ act_of looked.now table rid want }
+{
+    match looked {
+        Looked::Shown(_) => Act::Look {
+            table,
+            rid,
+            want,
+            got: Got::Granted,
+        },
+        Looked::EndOfTable => Act::ScanEnd {
+            table,
+            slots: rid.0,
+        },
+    }
+}
+
+/// Looks at a slot, of those there are or the next one: it shows the slot's present row, whether its maker has
+/// committed or not, or the end of the table. After `Memory`, where the history or the copy of the row finds
+/// none, all is as before. Constant time, and a copy of the row. Db2 LUW, 'Uncommitted read (UR)'.
+pub fn look(
+    parts: &mut Parts,
+    alloc: Global,
+    conn: Conn,
+    table: TableId,
+    rid: Rid,
+    want: Want,
+) -> Result<Looked, Memory>
+    requires stands { StandsFor parts.old }
+    requires open { (world_of parts.old).pace.finished ≡ false }
+    requires conn { conn.0 < length parts.old.head.conns }
+    requires running { phase (world_of parts.old) conn ≡ Running }
+    requires dirty { want ≡ Want.Dirty }
+    requires table { table.0 < length parts.old.head.tables }
+    requires rid { rid.0 ≤ slots (world_of parts.old) table }
+    ensures stands { StandsFor parts.new }
+    ensures head { parts.new.head ≡ parts.old.head }
+    ensures answer { IfOk result (λ a. a ≡ looked_of (world_of parts.old) table rid) }
+    ensures ok { OnOk result (parts.new.history.items ≡ parts.old.history.items ++ by_agent conn (look_act (world_of parts.old) table rid) ∷ []) }
+    ensures err { OnErr result (content_of parts.new ≡ content_of parts.old) }
+{
+    let looked = looked(parts, alloc, table, rid)?;
+    make_room(parts)?;
+    let act = act_of_look(&looked, table, rid, want);
+    let who = Who::Agent(conn);
+    note(parts, Entry { who, act });
+    Ok(looked)
+}
+
+/// The number of a table's slots.
+fn slots_of(tables: &Items<Rows>, table: TableId) -> usize
+    requires { table.0 < length tables.now }
+    ensures { result ≡ length (rows_at tables.now table) }
+{
+    tables.as_slice()[table.0 as usize].len()
+}
+
+/// Writes a row into the next slot of a table. After `Memory` all is as before, and the row is dropped.
+fn push_row(tables: &mut Items<Rows>, table: TableId, row: Row) -> Result<(), Memory>
+    requires { table.0 < length tables.old }
+    ensures ok { OnOk result (tables.new ≡ slice_set tables.old table.0 (rows_at tables.old table ++ row ∷ [])) }
+    ensures err { OnErr result (tables.new ≡ tables.old) }
+{
+    tables.item_mut(table.0 as usize).push(row)?;
+    Ok(())
+}
+
+/// Writes an insertion: the row itself, and its copy in the entry. After `Memory`, where the table finds none,
+/// all is as before.
+fn write_insert(
+    parts: &mut Parts,
+    conn: Conn,
+    table: TableId,
+    row: Row,
+    copy: Row,
+) -> Result<(), Memory>
+    requires table { table.0 < length parts.old.tables }
+    requires copy { copy ≡ row }
+    requires few { length (rows_at parts.old.tables table) < 65536 }
+    requires room { 1 ≤ parts.old.history.spare }
+    ensures wrote { OnOk result (content_of parts.new ≡ inserted (content_of parts.old) conn table row) }
+    ensures err { OnErr result (content_of parts.new ≡ content_of parts.old) }
+{
+    let slots = slots_of(&parts.tables, table);
+    push_row(&mut parts.tables, table, row)?;
+    parts.history.push_reserved(Entry {
+        who: Who::Agent(conn),
+        act: Act::Insert {
+            table,
+            rid: Rid(slots as u32),
+            row: copy,
+        },
+    });
+    Ok(())
+}
+
+/// Inserts a row into the next slot of a table. It is `Full` exactly where the table has all of its 65,536 slots,
+/// and then, as after `Memory`, all is as before; `Memory` comes where the history, the table or a copy of the
+/// row finds none. Two copies of the row.
+pub fn insert(
+    parts: &mut Parts,
+    alloc: Global,
+    conn: Conn,
+    table: TableId,
+    row: &Row,
+) -> Result<Written, Memory>
+    requires stands { StandsFor parts.old }
+    requires open { (world_of parts.old).pace.finished ≡ false }
+    requires conn { conn.0 < length parts.old.head.conns }
+    requires running { phase (world_of parts.old) conn ≡ Running }
+    requires table { table.0 < length parts.old.head.tables }
+    requires fits { IsTrue (row_fits parts.old.head table row.now) }
+    ensures stands { StandsFor parts.new }
+    ensures head { parts.new.head ≡ parts.old.head }
+    ensures full { IfOk result (λ a. (a ≡ Written.Full) ↔ (65536 ≤ slots (world_of parts.old) table)) }
+    ensures full_same { IfOk result (λ a. a ≡ Written.Full → content_of parts.new ≡ content_of parts.old) }
+    ensures done { IfOk result (λ a. a ≡ Written.Done → parts.new.history.items ≡ parts.old.history.items ++ by_agent conn (Act.Insert table (next_rid (world_of parts.old) table) row.now) ∷ []) }
+    ensures err { OnErr result (content_of parts.new ≡ content_of parts.old) }
+{
+    if slots_of(&parts.tables, table) >= 65_536 {
+        return Ok(Written::Full);
+    }
+    let written = row.copied(alloc)?;
+    let copy = row.copied(alloc)?;
+    make_room(parts)?;
+    write_insert(parts, conn, table, written, copy)?;
+    Ok(Written::Done)
+}
