@@ -1,14 +1,14 @@
 -- A token, and behind it what is read with a bound that is one less.
-use Rattle.std.proofs.Common.{◌≡◌, ℕ, zero, suc, ◌+◌, ◌≤◌, Bool, true, false, cond, List, [], ◌∷◌, ◌++◌, length, Result, Ok, Err, refl, sym, ap, subst, ◌∙◌, ◌⊎◌, inl, inr, append_assoc, length-append, arith}
+use Rattle.std.proofs.Common.{◌≡◌, ℕ, zero, suc, ◌≤◌, true, false, List, [], ◌∷◌, ◌++◌, length, Ok, Err, refl, sym, ap, subst, ◌∙◌, inl, inr, append_assoc, length-append, arith}
 use Rattle.iso_grammar.specs.declared.token.Kind.{Kind}
 use Rattle.iso_grammar.specs.declared.token.Token.{Token}
-use Rattle.iso_grammar.specs.Kinds.{Kinds, has, same_kind}
+use Rattle.iso_grammar.specs.Kinds.{Kinds, has}
 use Rattle.iso_grammar.specs.Grammar as g
 use Rattle.iso_grammar.specs.Grammar.{Lang, SameHead, StopsAt as Fails}
 use Rattle.iso_grammar.specs.Reading as r
 use Rattle.iso_grammar.specs.Reading.{Parser, Outcome, and_then, begins}
-use Rattle.iso_grammar.proofs.Lists.{shorter, cut, same_start}
-use Rattle.iso_grammar.proofs.Laws.{Begins, Completes, Takes, Answers, then_ok, then_err, ok_or_err}
+use Rattle.iso_grammar.proofs.Lists.{cut, same_start}
+use Rattle.iso_grammar.proofs.Laws.{Completes, Takes, Answers, then_ok, then_err, ok_or_err}
 use Rattle.iso_grammar.proofs.Choices.{no_nil, token-reads}
 
 abbrev pub after : {A : Type 0} → Kind → (Token → ℕ → Parser A) → ℕ → Parser A

@@ -1,6 +1,6 @@
 -- Tokens, nothing, and a choice of two.
-use Rattle.std.proofs.Common.{◌≡◌, ℕ, zero, suc, ◌+◌, ◌≤◌, Bool, true, false, cond, List, [], ◌∷◌, ◌++◌, length, Option, Some, None, Result, Ok, Err, refl, sym, ap, subst, ◌∙◌, ◌⊎◌, inl, inr, append_assoc, length-append, arith}
-use Rattle.std.specs.Prelude.{◌&&◌, ◌||◌}
+use Rattle.std.proofs.Common.{◌≡◌, ℕ, Bool, true, false, cond, List, [], ◌∷◌, ◌++◌, length, Ok, Err, refl, sym, ap, subst, ◌∙◌, ◌⊎◌, inl, inr}
+use Rattle.std.specs.Prelude.{◌||◌}
 use Rattle.iso_grammar.specs.declared.token.Kind.{Kind}
 use Rattle.iso_grammar.specs.declared.token.Token.{Token}
 use Rattle.iso_grammar.specs.Kinds.{Kinds, has, same_kind, apart}
@@ -9,8 +9,8 @@ use Rattle.iso_grammar.specs.Grammar.{Lang, SameHead, StopsAt as Fails}
 use Rattle.iso_grammar.specs.Reading as r
 use Rattle.iso_grammar.specs.Reading.{Parser, Outcome, and_then, begins}
 use Rattle.iso_grammar.proofs.KindLemmas.{apart_then, same_is, same_self}
-use Rattle.iso_grammar.proofs.Lists.{same_refl, same_under, begins_same, cut, cancel, shorter, same_start}
-use Rattle.iso_grammar.proofs.Laws.{Begins, Completes, Takes, Answers, Reads, has_left, has_right, begins-append, ok_pair, ok_or_err}
+use Rattle.iso_grammar.proofs.Lists.{same_under, begins_same}
+use Rattle.iso_grammar.proofs.Laws.{Begins, Completes, Takes, Answers, Reads, has_left, has_right, begins-append, ok_pair}
 
 -- ---- nothing
 

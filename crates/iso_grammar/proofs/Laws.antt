@@ -1,6 +1,5 @@
 -- What a parser owes to its grammar, and how parsers are put together.
-use Rattle.std.proofs.Common.{◌≡◌, ℕ, zero, suc, ◌+◌, ◌≤◌, Bool, true, false, cond, List, [], ◌∷◌, ◌++◌, length, Option, Some, None, Result, Ok, Err, refl, sym, ap, subst, ◌∙◌, ◌⊎◌, inl, inr, append_assoc, length-append, arith}
-use Rattle.std.proofs.lemmas.List.{append-nil}
+use Rattle.std.proofs.Common.{◌≡◌, ℕ, ◌≤◌, Bool, true, false, cond, List, [], ◌∷◌, ◌++◌, length, Ok, Err, refl, sym, ap, subst, ◌∙◌, ◌⊎◌, inl, inr, append_assoc, arith}
 use Rattle.std.specs.Prelude.{◌&&◌, ◌||◌}
 use Rattle.iso_grammar.specs.declared.token.Kind.{Kind}
 use Rattle.iso_grammar.specs.declared.token.Token.{Token}
@@ -10,7 +9,7 @@ use Rattle.iso_grammar.specs.Grammar.{Lang, SameHead, StopsAt as Fails}
 use Rattle.iso_grammar.specs.Reading as r
 use Rattle.iso_grammar.specs.Reading.{Parser, Outcome, and_then, begins}
 use Rattle.iso_grammar.proofs.KindLemmas.{apart_then}
-use Rattle.iso_grammar.proofs.Lists.{same_refl, same_under, begins_same, cut, cancel, shorter, same_start}
+use Rattle.iso_grammar.proofs.Lists.{same_under, begins_same, cut, shorter, same_start}
 
 -- how the lists of a grammar begin, and that it has one
 pub record Begins {A : Type 0} (L : Lang A) (first : Kinds) (null : Bool) : Type 0 where

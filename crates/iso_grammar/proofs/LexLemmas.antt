@@ -1,10 +1,9 @@
 -- Cutting a line from a place on.
-use Rattle.std.proofs.Common.{◌≡◌, ℕ, zero, suc, ◌+◌, ◌-◌, ◌≤◌, ◌<◌, Bool, true, false, not, cond, eqb, List, [], ◌∷◌, ◌++◌, length, get_or, take, drop, Option, Some, None, refl, sym, ap, ◌∙◌, append_assoc, add-one, drop-cons, arith}
-use Rattle.std.specs.Option.{option_map}
-use Rattle.std.proofs.lemmas.List.{append-nil, drop-drop, take_all, length-drop}
+use Rattle.std.proofs.Common.{◌≡◌, ℕ, zero, suc, ◌+◌, ◌-◌, ◌<◌, Bool, true, false, cond, List, [], ◌∷◌, ◌++◌, length, get_or, take, drop, refl, sym, ap, ◌∙◌, append_assoc, add-one, drop-cons, arith}
+use Rattle.std.proofs.lemmas.List.{drop-drop, take_all, length-drop}
 use Rattle.iso_grammar.specs.declared.token.Kind.{Kind}
 use Rattle.iso_grammar.specs.declared.token.Token.{Token}
-use Rattle.iso_grammar.specs.Lex.{is_blank, token_at, token, is_name, tokens_from, text_from}
+use Rattle.iso_grammar.specs.Lex.{is_blank, token_at, token, is_name, tokens_from}
 
 pub tokens_from-skip : (at left : ℕ) (after : Bool) (bs : List ℕ) → tokens_from at left after bs ≡ tokens_from (at + left) 0 after (drop left bs)
 tokens_from-skip at zero after bs = ap (λ n. tokens_from n 0 after bs) (omega arith)

@@ -1,7 +1,7 @@
 -- Fronts of token lists.
-use Rattle.std.proofs.Common.{◌≡◌, ℕ, ◌+◌, ◌≤◌, Bool, true, false, List, [], ◌∷◌, ◌++◌, length, refl, sym, ap, ◌∙◌, ◌⊎◌, inl, inr, append_assoc, length-append, arith}
+use Rattle.std.proofs.Common.{◌≡◌, ℕ, ◌≤◌, List, [], ◌∷◌, ◌++◌, length, refl, sym, ap, ◌∙◌, ◌⊎◌, inl, inr, length-append, arith}
 use Rattle.iso_grammar.specs.declared.token.Token.{Token}
-use Rattle.iso_grammar.specs.Kinds.{Kinds, has}
+use Rattle.iso_grammar.specs.Kinds.{Kinds}
 use Rattle.iso_grammar.specs.Grammar.{SameHead}
 use Rattle.iso_grammar.specs.Reading.{begins}
 

@@ -1,6 +1,5 @@
 -- A repetition.
-use Rattle.std.proofs.Common.{◌≡◌, ℕ, zero, suc, ◌+◌, ◌≤◌, Bool, true, false, cond, List, [], ◌∷◌, ◌++◌, length, Result, Ok, Err, refl, sym, ap, subst, ◌∙◌, ◌⊎◌, inl, inr, append_assoc, length-append, arith}
-use Rattle.std.specs.Prelude.{◌&&◌, ◌||◌}
+use Rattle.std.proofs.Common.{◌≡◌, ℕ, zero, suc, ◌+◌, ◌≤◌, true, false, cond, List, [], ◌∷◌, ◌++◌, length, Ok, Err, refl, sym, ap, subst, ◌∙◌, inl, inr, append_assoc, length-append, arith}
 use Rattle.std.proofs.lemmas.List.{append-nil}
 use Rattle.iso_grammar.specs.declared.token.Token.{Token}
 use Rattle.iso_grammar.specs.Kinds.{Kinds, has, apart}
@@ -9,7 +8,7 @@ use Rattle.iso_grammar.specs.Grammar.{Lang, SameHead, StopsAt as Fails}
 use Rattle.iso_grammar.specs.Reading as r
 use Rattle.iso_grammar.specs.Reading.{Parser, Outcome, and_then, begins}
 use Rattle.iso_grammar.proofs.KindLemmas.{apart_then}
-use Rattle.iso_grammar.proofs.Lists.{same_refl, same_under, begins_same, cut, cancel, shorter, same_start}
+use Rattle.iso_grammar.proofs.Lists.{same_under, begins_same, cut, same_start}
 use Rattle.iso_grammar.proofs.Laws.{Begins, Completes, Takes, Answers, Reads, begins-append, ok_pair, ok_or_err, then_ok, then_err, same_answer}
 use Rattle.iso_grammar.proofs.Choices.{both_ways, no_nil, decide, begins_so}
 

@@ -1,14 +1,13 @@
 -- The rules by which a parser is put together with its grammar.
-use Rattle.std.proofs.Common.{◌≡◌, ℕ, Bool, true, false, cond, List, [], ◌∷◌, ◌++◌, Option, Some, None, refl, sym, ap, ◌∙◌}
+use Rattle.std.proofs.Common.{◌≡◌, ℕ, Bool, true, false, cond, [], ◌∷◌, ◌++◌, sym, ap, ◌∙◌}
 use Rattle.std.specs.Prelude.{◌&&◌}
 use Rattle.iso_grammar.specs.declared.token.Kind.{Kind}
-use Rattle.iso_grammar.specs.declared.token.Token.{Token}
 use Rattle.iso_grammar.specs.Kinds.{Kinds, apart}
 use Rattle.iso_grammar.specs.Grammar as g
 use Rattle.iso_grammar.specs.Grammar.{Lang, SameHead, StopsAt as Fails}
 use Rattle.iso_grammar.specs.Reading as r
 use Rattle.iso_grammar.specs.Reading.{Parser}
-use Rattle.iso_grammar.proofs.Laws.{Begins, Completes, Takes, Answers, Reads, bind, bind-reads, bind-begin, bind-complete, bind-ok, bind-err}
+use Rattle.iso_grammar.proofs.Laws.{Begins, Completes, Answers, Reads, bind, bind-reads, bind-begin, bind-complete, bind-ok, bind-err}
 use Rattle.iso_grammar.proofs.Choices.{pure-reads, token-reads, one_of, either-reads, either-begin, either-complete, either-answer}
 use Rattle.iso_grammar.proofs.Many.{repeat, many-reads, many-begin, many-complete, many-answer}
 use Rattle.iso_grammar.proofs.Union.{Within}

@@ -1,11 +1,11 @@
 -- A repetition that a loop collects in a list.
-use Rattle.std.proofs.Common.{◌≡◌, ℕ, zero, suc, ◌+◌, ◌-◌, ◌≤◌, ◌<◌, Bool, true, false, cond, List, [], ◌∷◌, ◌++◌, append_assoc, Result, Ok, Err, refl, sym, ap, ◌∙◌, arith}
+use Rattle.std.proofs.Common.{◌≡◌, ℕ, zero, suc, ◌+◌, ◌-◌, ◌≤◌, ◌<◌, true, false, cond, List, [], ◌∷◌, ◌++◌, append_assoc, Result, Ok, Err, refl, sym, ap, ◌∙◌, arith}
 use Rattle.std.proofs.lemmas.List.{append-nil}
 use Rattle.iso_grammar.specs.declared.token.Token.{Token}
 use Rattle.iso_grammar.specs.declared.tokens.ReadError.{ReadError}
 use Rattle.iso_grammar.specs.declared.tokens.ReadError.TheVariants.{Memory, Syntax}
 use Rattle.iso_grammar.specs.Kinds.{Kinds}
-use Rattle.iso_grammar.specs.Reading.{Parser, Outcome, and_then, begins, many, pure, ◌>>=◌, either, Gives, Input}
+use Rattle.iso_grammar.specs.Reading.{Parser, Outcome, and_then, begins, many, pure, ◌>>=◌, Gives, Input}
 
 -- the rest of a repetition, put to what was read before
 unfoldable pub rest_of : {A : Type 0} → Kinds → Parser A → ℕ → List A → Parser (List A)

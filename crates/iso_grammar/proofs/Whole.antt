@@ -1,5 +1,5 @@
 -- A whole list is in the grammar, or leaves it at one place.
-use Rattle.std.proofs.Common.{◌≡◌, ℕ, zero, suc, ◌+◌, ◌≤◌, Bool, true, false, List, [], ◌∷◌, ◌++◌, length, Result, Ok, Err, refl, sym, ap, subst, ◌∙◌, ◌⊎◌, inl, inr, append_assoc, length-append, arith}
+use Rattle.std.proofs.Common.{◌≡◌, ℕ, ◌+◌, ◌≤◌, Bool, false, List, [], ◌∷◌, ◌++◌, length, Result, Ok, Err, refl, sym, ap, subst, ◌∙◌, ◌⊎◌, inl, inr, append_assoc, length-append, arith}
 use Rattle.std.proofs.lemmas.List.{append-nil}
 use Rattle.iso_grammar.specs.declared.token.Token.{Token}
 use Rattle.iso_grammar.specs.declared.tokens.ReadError.{ReadError}
@@ -8,8 +8,8 @@ use Rattle.iso_grammar.specs.Kinds.{Kinds}
 use Rattle.iso_grammar.specs.Grammar as g
 use Rattle.iso_grammar.specs.Grammar.{Lang, SameHead, StopsAt, IsOrMemory}
 use Rattle.iso_grammar.specs.Reading.{Parser, Outcome, and_then, begins, all_of, Gives, Input, end, pure}
-use Rattle.iso_grammar.proofs.Lists.{same_refl, cut, same_start}
-use Rattle.iso_grammar.proofs.Laws.{Reads, Takes, ok_pair, same_answer}
+use Rattle.iso_grammar.proofs.Lists.{same_refl, cut}
+use Rattle.iso_grammar.proofs.Laws.{Reads, Takes, same_answer}
 
 module _ {A : Type 0} {p : ℕ → Parser A} {L : Lang A} {first goes : Kinds} {null : Bool} (r : Reads p L first goes null) where
   nothing : begins goes [] ≡ false

@@ -1,5 +1,5 @@
 -- The lines of a script's bytes.
-use Rattle.std.specs.Prelude.{ℕ, Bool, ◌&&◌, if◌then◌else◌, ◌==◌, List, [], ◌∷◌}
+use Rattle.std.specs.Prelude.{ℕ, ◌&&◌, if◌then◌else◌, ◌==◌, List, [], ◌∷◌}
 use Rattle.iso_grammar.specs.Lex.{begins_with}
 
 -- the byte stands first in the first line, which is there from then on

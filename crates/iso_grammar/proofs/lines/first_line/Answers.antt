@@ -1,4 +1,4 @@
-use Rattle.std.proofs.Common.{ℕ, ◌+◌, List, ◌∷◌, length, drop, sym, ap, ◌∙◌}
+use Rattle.std.proofs.Common.{◌+◌, ◌∷◌, length, drop, sym, ap, ◌∙◌}
 use Rattle.iso_grammar.specs.Lines.{lines}
 use Rattle.iso_grammar.proofs.LexLemmas.{rest_of_line}
 use Rattle.iso_grammar.proofs.LineLemmas.{cut_at, uncut}
