@@ -2,3 +2,4 @@ pub mod Gathered
 pub mod RuleLaws
 pub mod ReadLaws
 pub mod BuiltLaws
+pub mod NumberLaws

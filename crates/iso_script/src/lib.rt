@@ -11,3 +11,6 @@ mod script;
 pub use fault::{LineCause, ScriptFault};
 pub use read::exactly_one;
 pub use script::{Line, Script, What};
+
+#[cfg(test)]
+mod tests;

@@ -114,12 +114,7 @@ fn is_column(columns: &[Column], line: &[u8], token: Token, at: u8) -> bool
 
 const PLACES: [u8; 8] = [0, 1, 2, 3, 4, 5, 6, 7];
 
-fn first_place(
-    columns: &[Column],
-    line: &[u8],
-    token: Token,
-    mut places: &[u8],
-) -> Option<u8>
+fn first_place(columns: &[Column], line: &[u8], token: Token, mut places: &[u8]) -> Option<u8>
     ensures { result ≡ find (spec.is_column columns.now line.now token) places.entry.now }
 {
     while let [at, rest @ ..] = places {

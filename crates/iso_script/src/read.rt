@@ -1,8 +1,9 @@
 //! Reads scripts.
 
-ghost use Rattle.std.specs.Prelude.{◌≡◌, ◌≤◌, ◌⊎◌, ℕ, List, length, IfOk, IfErr};
+ghost use Rattle.std.specs.Prelude.{◌≡◌, ◌≤◌, ◌⊎◌, ℕ, List, length, IfOk, IfErr, true};
 ghost use Rattle.iso_grammar.specs.Lines.{lines};
 ghost use Rattle.iso_script.specs.Built.{IsBuilt};
+ghost use Rattle.iso_script.specs.Numbered.{rises_above};
 ghost use Rattle.iso_script.specs.Reading as spec;
 ghost use Rattle.iso_script.specs.declared.script.Script as told;
 
@@ -50,6 +51,7 @@ impl Script {
         requires { length bytes.now ≤ 1048576 }
         ensures read { IfOk result (λ s. spec.reads bytes.now s) }
         ensures built { IfOk result (λ s. IsBuilt s) }
+        ensures rising { IfOk result (λ s. rises_above 0 s.lines ≡ true) }
         ensures refused { IfErr result (λ e. spec.Refuses bytes.now e) }
     {
         let reader = read_lines(alloc, bytes)?;
@@ -64,4 +66,5 @@ pub fn exactly_one()
     ensures one_script { (bytes : List ℕ) (s t : told.Script) → spec.reads bytes s → spec.reads bytes t → s ≡ t }
     ensures one_bad { (bytes : List ℕ) (m n : ℕ) → spec.bad bytes m → spec.bad bytes n → m ≡ n }
     ensures built { (bytes : List ℕ) (s : told.Script) → spec.reads bytes s → IsBuilt s }
+    ensures rising { (bytes : List ℕ) (s : told.Script) → spec.reads bytes s → rises_above 0 s.lines ≡ true }
 {}

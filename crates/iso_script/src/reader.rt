@@ -127,7 +127,13 @@ impl Reader {
         whole_line(alloc, self, line, &mut cursor, tokens.len())
     }
 
-    fn event(&self, alloc: Global, line: &[u8], found: &[Token], number: u32) -> Result<Event, ScriptFault>
+    fn event(
+        &self,
+        alloc: Global,
+        line: &[u8],
+        found: &[Token],
+        number: u32,
+    ) -> Result<Event, ScriptFault>
         requires { found.now ≡ tokens line.now }
         ensures { EventAnswers self.now line.now number result }
     {

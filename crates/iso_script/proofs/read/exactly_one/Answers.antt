@@ -9,6 +9,7 @@ use Rattle.iso_script.specs.Rules.{advance}
 use Rattle.iso_script.specs.Reading.{fits, wrong, is_ended, start, BadFrom, bad}
 use Rattle.iso_script.proofs.ReadLaws.{line-exact, only_unbuilt}
 use Rattle.iso_script.proofs.BuiltLaws.{reads-built}
+use Rattle.iso_script.proofs.NumberLaws.{reads-rising}
 use Rattle.iso_script.proofs.read.exactly_one.Goals as goal
 
 pub returns-clause-one_way : goal.returns-clause-one_way
@@ -29,3 +30,6 @@ returns-clause-one_bad c = λ bytes m n p q. (laws.one_bad fits wrong advance is
 
 pub returns-clause-built : goal.returns-clause-built
 returns-clause-built c = λ bytes s r. reads-built bytes s r
+
+pub returns-clause-rising : goal.returns-clause-rising
+returns-clause-rising c = λ bytes s r. reads-rising bytes s r
