@@ -1,0 +1,5 @@
+pub mod Gathered
+pub mod RuleLaws
+pub mod ReadLaws
+pub mod BuiltLaws
+pub mod NumberLaws

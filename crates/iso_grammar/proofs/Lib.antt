@@ -1,0 +1,15 @@
+pub mod Lists
+pub mod KindLemmas
+pub mod Laws
+pub mod Choices
+pub mod Many
+pub mod Rules
+pub mod Union
+pub mod After
+pub mod Whole
+pub mod Turns
+pub mod Fuel
+pub mod LexLemmas
+pub mod LineLemmas
+pub mod ScriptLaws
+pub mod Numbers

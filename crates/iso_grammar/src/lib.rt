@@ -1,0 +1,14 @@
+//! Tokens and lines of a script, and grammars over tokens.
+#![tactic(auto)]
+
+mod lex;
+mod lines;
+mod token;
+mod tokens;
+mod values;
+
+pub use lex::{is_comment, tokens_of};
+pub use lines::first_line;
+pub use token::{Kind, Token, same};
+pub use tokens::{ReadError, Tokens};
+pub use values::{integer, name, text_of};

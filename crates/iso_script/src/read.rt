@@ -1,0 +1,70 @@
+//! Reads scripts.
+
+ghost use Rattle.std.specs.Prelude.{◌≡◌, ◌≤◌, ◌⊎◌, ℕ, List, length, IfOk, IfErr, true};
+ghost use Rattle.iso_grammar.specs.Lines.{lines};
+ghost use Rattle.iso_script.specs.Built.{IsBuilt};
+ghost use Rattle.iso_script.specs.Numbered.{rises_above};
+ghost use Rattle.iso_script.specs.Reading as spec;
+ghost use Rattle.iso_script.specs.declared.script.Script as told;
+
+use crate::fault::{LineCause, ScriptFault};
+use crate::reader::{Place, Reader};
+use crate::script::Script;
+use iso_grammar::first_line;
+use std::alloc::Global;
+
+fn is_ended(reader: &Reader) -> bool
+    ensures { result ≡ spec.is_ended reader.now }
+{
+    matches!(reader.place, Place::After)
+}
+
+fn read_lines(alloc: Global, bytes: &[u8]) -> Result<Reader, ScriptFault>
+    requires { length bytes.now ≤ 1048576 }
+    ensures read { IfOk result (λ end. spec.ReadsFrom spec.start 1 (lines bytes.now) end) }
+    ensures refused { IfErr result (λ e. spec.Refuses bytes.now e) }
+{
+    let mut reader = Reader::new(alloc);
+    let mut rest = bytes;
+    let mut number = 1u32;
+    while !rest.is_empty() {
+        let (line, behind) = first_line(rest);
+        reader.take_line(alloc, line, number)?;
+        rest = behind;
+        number += 1;
+    }
+    if is_ended(&reader) {
+        return Ok(reader);
+    }
+    Err(ScriptFault::BadLine(number, LineCause::Unbuilt))
+}
+
+impl Script {
+    /// Reads a script of this stage: its first line, one table of integer columns, one connection,
+    /// and then INSERT, SELECT .. WITH UR and COMMIT, the last of them a COMMIT. At most 1,048,576
+    /// bytes.
+    ///
+    /// `BadLine` names the first line with which the lines so far begin no such script, or the line
+    /// after the last where END is missing; its cause is `Unbuilt`. `Memory` is want of memory.
+    /// Cost: one pass over the bytes. The form is this project's own.
+    pub fn read(alloc: Global, bytes: &[u8]) -> Result<Script, ScriptFault>
+        requires { length bytes.now ≤ 1048576 }
+        ensures read { IfOk result (λ s. spec.reads bytes.now s) }
+        ensures built { IfOk result (λ s. IsBuilt s) }
+        ensures rising { IfOk result (λ s. rises_above 0 s.lines ≡ true) }
+        ensures refused { IfErr result (λ e. spec.Refuses bytes.now e) }
+    {
+        let reader = read_lines(alloc, bytes)?;
+        Ok(reader.script)
+    }
+}
+
+/// Each list of bytes is read as one script, or has one first bad line, and never both.
+pub fn exactly_one()
+    ensures one_way { (bytes : List ℕ) → ((s : told.Script) × spec.reads bytes s) ⊎ ((n : ℕ) × spec.bad bytes n) }
+    ensures not_both { (bytes : List ℕ) (s : told.Script) (n : ℕ) → spec.reads bytes s → spec.bad bytes n → ⊥ }
+    ensures one_script { (bytes : List ℕ) (s t : told.Script) → spec.reads bytes s → spec.reads bytes t → s ≡ t }
+    ensures one_bad { (bytes : List ℕ) (m n : ℕ) → spec.bad bytes m → spec.bad bytes n → m ≡ n }
+    ensures built { (bytes : List ℕ) (s : told.Script) → spec.reads bytes s → IsBuilt s }
+    ensures rising { (bytes : List ℕ) (s : told.Script) → spec.reads bytes s → rises_above 0 s.lines ≡ true }
+{}
