@@ -5,3 +5,4 @@ pub mod Lines
 pub mod Carry
 pub mod Looks
 pub mod Start
+pub mod Words

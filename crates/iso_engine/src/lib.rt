@@ -2,7 +2,11 @@
 #![tactic(auto)]
 
 mod insertion;
+mod job;
 mod query;
 mod reply;
 mod run;
 mod serial;
+
+pub use job::Report;
+pub use run::run_serial;
