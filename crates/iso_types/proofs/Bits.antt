@@ -1,7 +1,8 @@
 -- The bit of a set of connections, as a test.
-use Rattle.std.proofs.Common.{◌≡◌, ℕ, zero, suc, ◌-◌, ◌*◌, ◌+◌, ◌/◌, ◌%◌, ◌^◌, ◌<◌, ◌≤◌, ◌≢◌, Bool, true, false, ◌&&◌, ◌||◌, not, ◌==◌, min, max, refl, sym, ◌∙◌, ap, arith, bit_and, bit_or, w32, lit<, ◌⊎◌, inl, inr}
+use Rattle.std.proofs.Common.{◌≡◌, ℕ, zero, suc, ◌-◌, ◌*◌, ◌+◌, ◌/◌, ◌%◌, ◌^◌, ◌<◌, ◌≤◌, ◌≢◌, Bool, true, false, ◌&&◌, ◌||◌, not, ◌==◌, min, max, refl, sym, ◌∙◌, ap, arith, bit_and, bit_or, w32, lit<, ◌⊎◌, inl, inr, ◌↔◌}
 use Rattle.std.specs.Int.{bit_at, bit_not, trailing_zeros}
-use Rattle.std.proofs.lemmas.Bool.{cases_eq, cases_lt, eq-eqb, ne_eqb, eqb-true}
+use Rattle.std.proofs.lemmas.Nat.{and_le_l}
+use Rattle.std.proofs.lemmas.Bool.{and_from, and_parts, both_ways, cases_Bool, not-true, cases_eq, cases_lt, eq-eqb, ne_eqb, eqb-true}
 use Rattle.std.proofs.lemmas.Nat.Bits.{bit_at_and, bit_at_or, bit_at_not, bit_at-lt, bit_at_above, bit_at-zero, bit_at_set_same, bit_at_set_other, bit_at-trailing_zeros}
 
 -- the number has this bit
@@ -66,3 +67,24 @@ has_least n p q =
       inl l ↦ absurd (not-one _ (t.2 i l) (eqb-true _ _ h))
     | inr g ↦ g
     ])
+
+pub has_meets : (a b : ℕ) → a < 2 ^ 32
+    → (not (bit_and a b == 0) ≡ true) ↔ ((i : ℕ) × (has a i ≡ true) × (has b i ≡ true))
+has_meets a b q = (there, back) where
+  there : not (bit_and a b == 0) ≡ true → (i : ℕ) × (has a i ≡ true) × (has b i ≡ true)
+  there h =
+      let p : bit_and a b < 2 ^ 32 = omega (arith, and_le_l a b) in
+      let n : bit_and a b ≢ 0 = λ e. both_ways (bit_and a b == 0) (not-true (bit_and a b == 0) h) (eq-eqb (bit_and a b) 0 e) in
+      let t = has_least (bit_and a b) (omega arith) p in
+      let i : ℕ = trailing_zeros w32 (bit_and a b) in
+      let parts : (has a i ≡ true) × (has b i ≡ true) = and_parts (has a i) (has b i) (sym (has_and a b i) ∙ t.0) in
+      (i, parts.0, parts.1)
+  back : (i : ℕ) × (has a i ≡ true) × (has b i ≡ true) → not (bit_and a b == 0) ≡ true
+  back w =
+      let here : has (bit_and a b) w.0 ≡ true = has_and a b w.0 ∙ and_from (has a w.0) (has b w.0) w.1 w.2 in
+      elim (cases_Bool (bit_and a b == 0)) [
+        inl e ↦
+          let zero-is : bit_and a b ≡ 0 = eqb-true (bit_and a b) 0 e in
+          absurd (both_ways (has (bit_and a b) w.0) (rw zero-is (has_zero w.0)) here)
+      | inr e ↦ rw e refl
+      ]

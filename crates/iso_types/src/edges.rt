@@ -1,4 +1,4 @@
-ghost use Rattle.std.specs.Prelude.{◌≡◌, ◌<◌, ◌≤◌, ◌&&◌, ◌||◌, not, true, false, MatchOption};
+ghost use Rattle.std.specs.Prelude.{◌≡◌, ◌<◌, ◌≤◌, ◌↔◌, ◌&&◌, ◌||◌, not, true, false, MatchOption};
 ghost use Rattle.iso_types.specs.Edges.{has_edge};
 ghost use Rattle.iso_types.specs.Ids.{conn_eq};
 ghost use Rattle.iso_types.specs.declared.value.Conn.{Conn as Connection};
@@ -52,6 +52,13 @@ impl Edges {
         ensures { (c : Connection) → has_edge result c ≡ (has_edge self c && not (has_edge other c)) }
     {
         Edges(self.0 & !other.0)
+    }
+
+    /// Whether both sets have an edge to one connection.
+    pub fn meets(self, other: Edges) -> bool
+        ensures { (result ≡ true) ↔ ((c : Connection) × (has_edge self c ≡ true) × (has_edge other c ≡ true)) }
+    {
+        self.0 & other.0 != 0
     }
 
     /// The least connection to which there is an edge, or None exactly where there is none.
