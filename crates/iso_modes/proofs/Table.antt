@@ -1,8 +1,8 @@
 -- The laws of the table, each computed over all modes.
-use Rattle.std.proofs.Common.{◌≡◌, Bool, true, false, ◌&&◌, List, [], ◌∷◌, refl, sym, ◌∙◌, get_or}
+use Rattle.std.proofs.Common.{◌≡◌, Bool, true, false, ◌&&◌, [], refl, sym, ◌∙◌, get_or}
 use Rattle.std.specs.List.{list_all}
 use Rattle.iso_modes.specs.declared.Mode.{Mode}
-use Rattle.iso_modes.specs.declared.Mode.TheVariants.{In, Is, Ns, S, Ix, Six, U, X, Nw, Z}
+use Rattle.iso_modes.specs.declared.Mode.TheVariants.{In}
 use Rattle.iso_modes.specs.declared.tables.TheConstants.{JOINS, TOGETHER}
 use Rattle.iso_modes.specs.Modes.{IsJoin, at_least, compatible, goes_with, joined, mode_eq, mode_number}
 use Rattle.iso_modes.proofs.Modes.{all-of, each, each-pair, mode_eq-is, modes, same, same-is, same-of}

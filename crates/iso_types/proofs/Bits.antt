@@ -1,5 +1,5 @@
 -- The bit of a set of connections, as a test.
-use Rattle.std.proofs.Common.{◌≡◌, ℕ, zero, suc, ◌-◌, ◌*◌, ◌+◌, ◌/◌, ◌%◌, ◌^◌, ◌<◌, ◌≤◌, ◌≢◌, Bool, true, false, ◌&&◌, ◌||◌, not, ◌==◌, min, max, refl, sym, ◌∙◌, ap, arith, bit_and, bit_or, w32, lit<, ◌⊎◌, inl, inr, ◌↔◌}
+use Rattle.std.proofs.Common.{◌≡◌, ℕ, zero, suc, ◌-◌, ◌*◌, ◌%◌, ◌^◌, ◌<◌, ◌≤◌, ◌≢◌, Bool, true, false, ◌&&◌, ◌||◌, not, ◌==◌, min, max, refl, sym, ◌∙◌, arith, bit_and, bit_or, w32, inl, inr, ◌↔◌}
 use Rattle.std.specs.Int.{bit_at, bit_not, trailing_zeros}
 use Rattle.std.proofs.lemmas.Nat.{and_le_l}
 use Rattle.std.proofs.lemmas.Bool.{and_from, and_parts, both_ways, cases_Bool, not-true, cases_eq, cases_lt, eq-eqb, ne_eqb, eqb-true}
@@ -45,15 +45,15 @@ has_above a i p q = rw (bit_at_above a 32 i p q) refl
 pub has_without : (a b i : ℕ) → a < 2 ^ 32 → b < 2 ^ 32 → has (bit_and a (bit_not w32 b)) i ≡ (has a i && not (has b i))
 has_without a b i p q =
     elim (cases_lt i 32) [
-      inl l ↦ rw (has_and a (bit_not w32 b) i, bit_at_not w32 b i q l, not-is (bit_at b i) (bit_at-lt b i)) refl
-    | inr g ↦ rw (has_and a (bit_not w32 b) i, has_above a i p g) refl
+      | inl l ↦ rw (has_and a (bit_not w32 b) i, bit_at_not w32 b i q l, not-is (bit_at b i) (bit_at-lt b i)) refl
+      | inr g ↦ rw (has_and a (bit_not w32 b) i, has_above a i p g) refl
     ]
 
 pub has_with : (a k i : ℕ) → k < 32 → has (bit_or a (1 * 2 ^ k % 2 ^ 32)) i ≡ ((i == k) || has a i)
 has_with a k i l =
     elim (cases_eq i k) [
-      inl e ↦ rw (e, bit_at_set_same w32 a k l, eq-eqb k k refl) refl
-    | inr n ↦ rw (bit_at_set_other w32 a k l i n, ne_eqb i k n) refl
+      | inl e ↦ rw (e, bit_at_set_same w32 a k l, eq-eqb k k refl) refl
+      | inr n ↦ rw (bit_at_set_other w32 a k l i n, ne_eqb i k n) refl
     ]
 
 not-one : (n : ℕ) → n ≡ 0 → n ≡ 1 → ⊥
@@ -62,11 +62,14 @@ not-one n e f = omega arith
 pub has_least : (n : ℕ) → 0 < n → n < 2 ^ 32
     → (has n (trailing_zeros w32 n) ≡ true) × (trailing_zeros w32 n < 32) × ((i : ℕ) → has n i ≡ true → trailing_zeros w32 n ≤ i)
 has_least n p q =
-    let t = bit_at-trailing_zeros w32 n p q in
-    (eq-eqb _ _ t.1, t.0, λ i h. elim (cases_lt i (trailing_zeros w32 n)) [
-      inl l ↦ absurd (not-one _ (t.2 i l) (eqb-true _ _ h))
-    | inr g ↦ g
-    ])
+    let t = bit_at-trailing_zeros w32 n p q in (
+      eq-eqb _ _ t.1,
+      t.0,
+      λ i h. elim (cases_lt i (trailing_zeros w32 n)) [
+        | inl l ↦ absurd (not-one _ (t.2 i l) (eqb-true _ _ h))
+        | inr g ↦ g
+      ],
+    )
 
 pub has_meets : (a b : ℕ) → a < 2 ^ 32
     → (not (bit_and a b == 0) ≡ true) ↔ ((i : ℕ) × (has a i ≡ true) × (has b i ≡ true))
@@ -79,12 +82,13 @@ has_meets a b q = (there, back) where
       let i : ℕ = trailing_zeros w32 (bit_and a b) in
       let parts : (has a i ≡ true) × (has b i ≡ true) = and_parts (has a i) (has b i) (sym (has_and a b i) ∙ t.0) in
       (i, parts.0, parts.1)
+
   back : (i : ℕ) × (has a i ≡ true) × (has b i ≡ true) → not (bit_and a b == 0) ≡ true
   back w =
       let here : has (bit_and a b) w.0 ≡ true = has_and a b w.0 ∙ and_from (has a w.0) (has b w.0) w.1 w.2 in
       elim (cases_Bool (bit_and a b == 0)) [
-        inl e ↦
-          let zero-is : bit_and a b ≡ 0 = eqb-true (bit_and a b) 0 e in
-          absurd (both_ways (has (bit_and a b) w.0) (rw zero-is (has_zero w.0)) here)
-      | inr e ↦ rw e refl
+        | inl e ↦
+            let zero-is : bit_and a b ≡ 0 = eqb-true (bit_and a b) 0 e in
+            absurd (both_ways (has (bit_and a b) w.0) (rw zero-is (has_zero w.0)) here)
+        | inr e ↦ rw e refl
       ]

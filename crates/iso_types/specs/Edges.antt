@@ -1,7 +1,6 @@
 -- What sets of edges say, a bit a connection (this project's own).
 use Rattle.std.specs.Int.{bit_at}
-use Rattle.std.specs.List.{filter}
-use Rattle.std.specs.Prelude.{ℕ, Bool, List, ◌==◌, slice_index_or}
+use Rattle.std.specs.Prelude.{Bool, List, ◌==◌, slice_index_or}
 use Rattle.iso_types.specs.declared.edges.Edges.{Edges}
 use Rattle.iso_types.specs.declared.value.Conn.{Conn}
 

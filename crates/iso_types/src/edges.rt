@@ -63,10 +63,8 @@ impl Edges {
 
     /// The least connection to which there is an edge, or None exactly where there is none.
     pub fn least(self) -> Option<Conn>
-        ensures {
-            MatchOption result ((c : Connection) → has_edge self c ≡ false)
-                (λ d. (has_edge self d ≡ true) × (d.0 < 32) × ((c : Connection) → has_edge self c ≡ true → d.0 ≤ c.0))
-        }
+        ensures { MatchOption result ((c : Connection) → has_edge self c ≡ false)
+            (λ d. (has_edge self d ≡ true) × (d.0 < 32) × ((c : Connection) → has_edge self c ≡ true → d.0 ≤ c.0)) }
     {
         if self.0 == 0 {
             return None;

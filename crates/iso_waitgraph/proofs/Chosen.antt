@@ -1,5 +1,5 @@
 -- The least way back is the chosen cycle.
-use Rattle.std.proofs.Common.{◌≡◌, ℕ, zero, suc, ◌+◌, ◌<◌, ◌≤◌, ◌↔◌, ◌⊎◌, inl, inr, Bool, true, false, ◌||◌, ◌==◌, List, [], ◌∷◌, ◌++◌, map, length, refl, sym, ◌∙◌, ap, subst, arith, eqb, length-append}
+use Rattle.std.proofs.Common.{◌≡◌, ℕ, suc, ◌+◌, ◌<◌, ◌≤◌, ◌⊎◌, inl, inr, Bool, true, false, ◌||◌, ◌==◌, List, [], ◌∷◌, ◌++◌, length, refl, sym, ◌∙◌, ap, subst, arith, eqb, length-append}
 use Rattle.std.specs.Option.{MatchOption, is_some}
 use Rattle.std.specs.Prelude.{None, Option, Some}
 use Rattle.std.specs.List.{AllByRecursion, IsDistinct, list_any}
@@ -7,13 +7,12 @@ use Rattle.std.proofs.lemmas.Bool.{cases_Bool, cases_lt, eq-eqb, eqb-true, or_ca
 use Rattle.std.proofs.lemmas.Map.Steps.{length-le_from_distinct_below}
 use Rattle.iso_types.specs.Cycles.{AreDifferent, IsCycle, IsShortestThrough, IsUpTo, Leads, is_among}
 use Rattle.iso_types.specs.Edges.{has_edge, leads}
-use Rattle.iso_types.specs.Ids.{conn_eq}
 use Rattle.iso_types.specs.declared.edges.Edges.{Edges}
 use Rattle.iso_types.specs.declared.value.Conn.{Conn}
 use Rattle.iso_waitgraph.proofs.Distances.{shortest-walk}
-use Rattle.iso_waitgraph.proofs.Sets.{or-left, or-right, place-within}
+use Rattle.iso_waitgraph.proofs.Sets.{or-left, place-within}
 use Rattle.iso_waitgraph.proofs.Ways.{conn-is, falls-length, walk-of, way-cycle}
-use Rattle.iso_waitgraph.specs.Walks.{AreLevels, Falls, IsAway, IsLeastWay, IsNoNearer, Walk, set_at}
+use Rattle.iso_waitgraph.specs.Walks.{AreLevels, IsAway, IsLeastWay, IsNoNearer, Walk, set_at}
 
 -- a way through a connection, cut there
 cut : (edge : Conn → Conn → Bool) (s end c : Conn) (cs : List Conn) → Leads edge c cs end → is_among s cs ≡ true
@@ -21,15 +20,15 @@ cut : (edge : Conn → Conn → Bool) (s end c : Conn) (cs : List Conn) → Lead
 cut edge s end c [] h on = absurd (both_ways false refl on)
 cut edge s end c (d ∷ ds) h on =
     elim (or_cases (s.0 == d.0) (is_among s ds) on) [
-      inl e ↦
-        let same : d ≡ s = sym (conn-is s d (eqb-true s.0 d.0 e)) in
-        let P : Conn → Type 0 = λ x. edge c x ≡ true in
-        let Q : Conn → Type 0 = λ x. Leads edge x ds end in
-        ([], ds, subst P same h.0, subst Q same h.1, omega arith)
-    | inr r ↦
-        let t : (xs : List Conn) × (ys : List Conn) × Leads edge d xs s × Leads edge s ys end × (length xs + suc (length ys) ≡ length ds) =
+      | inl e ↦
+          let same : d ≡ s = sym (conn-is s d (eqb-true s.0 d.0 e)) in
+          let P : Conn → Type 0 = λ x. edge c x ≡ true in
+          let Q : Conn → Type 0 = λ x. Leads edge x ds end in
+          ([], ds, subst P same h.0, subst Q same h.1, omega arith)
+      | inr r ↦
+          let t : (xs : List Conn) × (ys : List Conn) × Leads edge d xs s × Leads edge s ys end × (length xs + suc (length ys) ≡ length ds) =
           cut edge s end d ds h.1 r in
-        (d ∷ t.0, t.1, (h.0, t.2), t.3, omega (arith, t.4))
+          (d ∷ t.0, t.1, (h.0, t.2), t.3, omega (arith, t.4))
     ]
 
 -- two ways, one after the other
@@ -43,14 +42,14 @@ closed : (edge : Conn → Conn → Bool) (s : Conn) (q : List Conn) → IsCycle 
 closed edge s [] h on = absurd h
 closed edge s (c ∷ cs) h on =
     elim (or_cases (s.0 == c.0) (is_among s cs) on) [
-      inl e ↦
-        let same : c ≡ s = sym (conn-is s c (eqb-true s.0 c.0 e)) in
-        let P : Conn → Type 0 = λ x. Leads edge x cs x in
-        (cs, subst P same h.1, omega arith)
-    | inr r ↦
-        let t : (xs : List Conn) × (ys : List Conn) × Leads edge c xs s × Leads edge s ys c × (length xs + suc (length ys) ≡ length cs) =
+      | inl e ↦
+          let same : c ≡ s = sym (conn-is s c (eqb-true s.0 c.0 e)) in
+          let P : Conn → Type 0 = λ x. Leads edge x cs x in
+          (cs, subst P same h.1, omega arith)
+      | inr r ↦
+          let t : (xs : List Conn) × (ys : List Conn) × Leads edge c xs s × Leads edge s ys c × (length xs + suc (length ys) ≡ length cs) =
           cut edge s c c cs h.1 r in
-        (t.1 ++ c ∷ t.0, joined-ways edge s c s t.1 t.0 t.3 t.2, rw (length-append {A = Conn}) (omega (arith, t.4)))
+          (t.1 ++ c ∷ t.0, joined-ways edge s c s t.1 t.0 t.3 t.2, rw (length-append {A = Conn}) (omega (arith, t.4)))
     ]
 
 abbrev numbers : List Conn → List ℕ
@@ -69,8 +68,8 @@ none-same : (n : ℕ) (ns : List ℕ) → list_any (eqb n) ns ≡ false → AllB
 none-same n [] h = tt
 none-same n (m ∷ ns) h =
     elim (cases_Bool (eqb n m)) [
-      inl t ↦ absurd (both_ways (eqb n m || list_any (eqb n) ns) h (or-left (eqb n m) (list_any (eqb n) ns) t))
-    | inr f ↦ (f, none-same n ns (sym (rw f refl) ∙ h))
+      | inl t ↦ absurd (both_ways (eqb n m || list_any (eqb n) ns) h (or-left (eqb n m) (list_any (eqb n) ns) t))
+      | inr f ↦ (f, none-same n ns (sym (rw f refl) ∙ h))
     ]
 
 distinct-numbers : (cs : List Conn) → AreDifferent cs → IsDistinct eqb (numbers cs)
@@ -83,13 +82,13 @@ members-below : (edge : Conn → Conn → Bool) (n : ℕ) (out : (v w : Conn) �
     → (q : ℕ) → list_any (eqb q) (numbers (c ∷ cs)) ≡ true → q < n
 members-below edge n out end c [] h q on =
     elim (or_cases (eqb q c.0) false on) [
-      inl e ↦ let same : q ≡ c.0 = eqb-true q c.0 e in let l : c.0 < n = out c end h in omega arith
-    | inr f ↦ absurd (both_ways false refl f)
+      | inl e ↦ let same : q ≡ c.0 = eqb-true q c.0 e in let l : c.0 < n = out c end h in omega arith
+      | inr f ↦ absurd (both_ways false refl f)
     ]
 members-below edge n out end c (d ∷ ds) h q on =
     elim (or_cases (eqb q c.0) (list_any (eqb q) (numbers (d ∷ ds))) on) [
-      inl e ↦ let same : q ≡ c.0 = eqb-true q c.0 e in let l : c.0 < n = out c d h.0 in omega arith
-    | inr r ↦ members-below edge n out end d ds h.1 q r
+      | inl e ↦ let same : q ≡ c.0 = eqb-true q c.0 e in let l : c.0 < n = out c d h.0 in omega arith
+      | inr r ↦ members-below edge n out end d ds h.1 q r
     ]
 
 -- a cycle has at most as many members as there are connections
@@ -97,7 +96,7 @@ pub cycle-short : (edge : Conn → Conn → Bool) (n : ℕ) (out : (v w : Conn) 
 cycle-short edge n out [] h = absurd h
 cycle-short edge n out (c ∷ cs) h =
     let short : length (numbers (c ∷ cs)) ≤ n =
-      length-le_from_distinct_below (numbers (c ∷ cs)) n (distinct-numbers (c ∷ cs) h.0) (members-below edge n out c c cs h.1) in
+    length-le_from_distinct_below (numbers (c ∷ cs)) n (distinct-numbers (c ∷ cs) h.0) (members-below edge n out c c cs h.1) in
     let same : length (numbers (c ∷ cs)) ≡ length (c ∷ cs) = length-numbers (c ∷ cs) in
     omega arith
 
@@ -107,13 +106,14 @@ pub way-chosen : (edge : Conn → Conn → Bool) (start : Conn) (k : ℕ) (ds : 
     → ((q : List Conn) (d : Conn) → IsCycle edge q → is_among d q ≡ true → start.0 ≤ d.0)
     → IsShortestThrough edge start (start ∷ ds)
 way-chosen edge start k ds way near first = record {
-    cycle = way-cycle edge start k ds way;
-    through = or-left (start.0 == start.0) (is_among start ds) (eq-eqb start.0 start.0 refl);
-    shortest = shortest;
-    least = least
-  } where
+  cycle = way-cycle edge start k ds way;
+  through = or-left (start.0 == start.0) (is_among start ds) (eq-eqb start.0 start.0 refl);
+  shortest = shortest;
+  least = least;
+} where
   size : length ds ≡ k
   size = falls-length edge start k ds way.falls
+
   shortest : (q : List Conn) → IsCycle edge q → is_among start q ≡ true → length (start ∷ ds) ≤ length q
   shortest q h on =
       let t : (es : List Conn) × Leads edge start es start × (suc (length es) ≡ length q) = closed edge start q h on in
@@ -121,21 +121,22 @@ way-chosen edge start k ds way near first = record {
       let long : suc (length t.0) ≡ length q = t.2 in
       let full : length ds ≡ k = size in
       elim (cases_lt (length t.0) k) [
-        inl l ↦ absurd (near w.0 (length t.0) w.1 l w.2)
-      | inr g ↦ omega arith
+        | inl l ↦ absurd (near w.0 (length t.0) w.1 l w.2)
+        | inr g ↦ omega arith
       ]
+
   least : (q : List Conn) → IsCycle edge q → is_among start q ≡ true → length q ≡ length (start ∷ ds) → IsUpTo (start ∷ ds) q
   least [] h on same = absurd h
   least (d ∷ es) h on same =
       let full : length ds ≡ k = size in
       let up : start.0 ≤ d.0 = first (d ∷ es) d h (or-left (d.0 == d.0) (is_among d es) (eq-eqb d.0 d.0 refl)) in
       elim (cases_lt start.0 d.0) [
-        inl l ↦ inl l
-      | inr g ↦
-          let here : start ≡ d = conn-is start d (omega arith) in
-          let P : Conn → Type 0 = λ c. Leads edge c es c in
-          let even : length es ≡ k = omega arith in
-          inr (here, way.least es (subst P (sym here) h.1) even)
+        | inl l ↦ inl l
+        | inr g ↦
+            let here : start ≡ d = conn-is start d (omega arith) in
+            let P : Conn → Type 0 = λ c. Leads edge c es c in
+            let even : length es ≡ k = omega arith in
+            inr (here, way.least es (subst P (sym here) h.1) even)
       ]
 
 -- whether a connection is so far away is told by the levels
@@ -143,8 +144,8 @@ tell : (sets : List Edges) (start w : Conn) (levels : List Edges) → AreLevels 
     → (k : ℕ) → k < 32 → IsAway (leads sets) start k w ⊎ (IsAway (leads sets) start k w → ⊥)
 tell sets start w levels on k l =
     elim (cases_Bool (has_edge (set_at levels k) w)) [
-      inl t ↦ inl ((on k w l).0 t)
-    | inr f ↦ inr (λ h. both_ways (has_edge (set_at levels k) w) f ((on k w l).1 h))
+      | inl t ↦ inl ((on k w l).0 t)
+      | inr f ↦ inr (λ h. both_ways (has_edge (set_at levels k) w) f ((on k w l).1 h))
     ]
 
 -- no level that the start has an edge to is nearer than the nearest
@@ -153,7 +154,7 @@ pub no-nearer : (sets : List Edges) (start : Conn) (levels : List Edges) (k : �
     → IsNoNearer (leads sets) start k start
 no-nearer sets start levels k l on none w j e m walk =
     let t : (i : ℕ) × (i ≤ j) × IsAway (leads sets) start i w =
-      shortest-walk (leads sets) start w 32 j (omega arith) (tell sets start w levels on) walk in
+    shortest-walk (leads sets) start w 32 j (omega arith) (tell sets start w levels on) walk in
     none t.0 w (omega arith) e ((on t.0 w (omega arith)).1 t.2)
 
 -- no cycle where the start has no edge to a level
@@ -191,11 +192,11 @@ pub next-start : (sets : List Edges) (start : ℕ)
 next-start sets start past none q d h on =
     let up : start ≤ d.0 = past q d h on in
     elim (cases_lt start d.0) [
-      inl l ↦ omega arith
-    | inr g ↦
-        let here : d ≡ record { 0 = start } = conn-is d (record { 0 = start }) (omega arith) in
-        let P : Conn → Type 0 = λ c. is_among c q ≡ true in
-        absurd (none q h (subst P here on))
+      | inl l ↦ omega arith
+      | inr g ↦
+          let here : d ≡ record { 0 = start } = conn-is d (record { 0 = start }) (omega arith) in
+          let P : Conn → Type 0 = λ c. is_among c q ≡ true in
+          absurd (none q h (subst P here on))
     ]
 
 pub none-of : {A : Type 0} (o : Option A) (P : Type 0) (Q : A → Type 0) → MatchOption o P Q → is_some o ≡ false → P

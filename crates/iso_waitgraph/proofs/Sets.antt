@@ -1,6 +1,6 @@
 -- The set of the connections with an edge into a set, gathered place by place.
-use Rattle.std.proofs.Common.{◌≡◌, ℕ, ◌+◌, ◌<◌, ◌≤◌, ◌↔◌, ◌⊎◌, inl, inr, Bool, true, false, ◌&&◌, ◌||◌, ◌==◌, List, length, refl, sym, ◌∙◌, ap, subst, arith, get_or}
-use Rattle.std.proofs.lemmas.Bool.{cases_Bool, cases_eq, cases_lt, eq-eqb, eqb-true, or_cases, both_ways}
+use Rattle.std.proofs.Common.{◌≡◌, ℕ, ◌+◌, ◌<◌, ◌↔◌, inl, inr, Bool, true, false, ◌||◌, ◌==◌, List, length, refl, sym, ◌∙◌, subst, arith}
+use Rattle.std.proofs.lemmas.Bool.{cases_lt, eq-eqb, eqb-true, or_cases, both_ways}
 use Rattle.std.proofs.lemmas.List.{get_or_past}
 use Rattle.std.proofs.lemmas.Nat.Bits.{bit_at-zero}
 use Rattle.iso_types.specs.Edges.{has_edge, leads}
@@ -32,17 +32,18 @@ unfolding leads
 gathered-hit sets set i found next h hit is v = (there, back) where
   there : next v ≡ true → (v.0 < i + 1) × LeadsInto sets set v
   there t = elim (or_cases (v.0 == i) (found v) (sym (is v) ∙ t)) [
-      inl e ↦
+    | inl e ↦
         let at : i ≡ v.0 = sym (eqb-true v.0 i e) in
         let P : ℕ → Type 0 = λ n. Hits sets set n in
         (omega arith, subst P at hit)
     | inr f ↦ let w : (v.0 < i) × LeadsInto sets set v = (h v).0 f in (omega arith, w.1)
-    ]
+  ]
+
   back : (v.0 < i + 1) × LeadsInto sets set v → next v ≡ true
   back w = elim (cases_lt v.0 i) [
-      inl l ↦ is v ∙ or-right (v.0 == i) (found v) ((h v).1 (l, w.1))
+    | inl l ↦ is v ∙ or-right (v.0 == i) (found v) ((h v).1 (l, w.1))
     | inr g ↦ is v ∙ or-left (v.0 == i) (found v) (eq-eqb v.0 i (omega arith))
-    ]
+  ]
 
 pub gathered-miss : (sets : List Edges) (set : Edges) (i : ℕ) (found : Conn → Bool)
     → Gathered sets set i found → (Hits sets set i → ⊥)
@@ -51,14 +52,15 @@ unfolding leads
 gathered-miss sets set i found h miss v = (there, back) where
   there : found v ≡ true → (v.0 < i + 1) × LeadsInto sets set v
   there t = let w : (v.0 < i) × LeadsInto sets set v = (h v).0 t in (omega arith, w.1)
+
   back : (v.0 < i + 1) × LeadsInto sets set v → found v ≡ true
   back w = elim (cases_lt v.0 i) [
-      inl l ↦ (h v).1 (l, w.1)
+    | inl l ↦ (h v).1 (l, w.1)
     | inr g ↦
         let at : v.0 ≡ i = omega arith in
         let P : ℕ → Type 0 = λ n. Hits sets set n in
         absurd (miss (subst P at w.1))
-    ]
+  ]
 
 -- a set past the end has no edge
 has-none : (w : Conn) → has_edge (record { 0 = 0 }) w ≡ false
@@ -70,6 +72,6 @@ pub place-within : (sets : List Edges) (v w : Conn) → leads sets v w ≡ true 
 unfolding leads
 place-within sets v w h =
     elim (cases_lt v.0 (length sets)) [
-      inl l ↦ l
-    | inr g ↦ absurd (both_ways (has_edge (record { 0 = 0 }) w) (has-none w) (rw (get_or_past {X = Edges} sets v.0 (record { 0 = 0 }) g) at h))
+      | inl l ↦ l
+      | inr g ↦ absurd (both_ways (has_edge (record { 0 = 0 }) w) (has-none w) (rw (get_or_past {X = Edges} sets v.0 (record { 0 = 0 }) g) at h))
     ]

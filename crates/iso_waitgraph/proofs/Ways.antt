@@ -1,10 +1,8 @@
 -- The least way back to a connection is the chosen cycle through it.
-use Rattle.std.proofs.Common.{◌≡◌, ℕ, zero, suc, ◌+◌, ◌<◌, ◌≤◌, ◌↔◌, ◌⊎◌, inl, inr, Bool, true, false, ◌||◌, ◌==◌, List, [], ◌∷◌, ◌++◌, length, refl, sym, ◌∙◌, ap, subst, arith, append_assoc, append-nil}
-use Rattle.std.proofs.lemmas.Bool.{cases_Bool, cases_eq, cases_lt, cases_order, eq-eqb, eqb-true, ne_eqb, or_cases, both_ways}
-use Rattle.iso_types.specs.Cycles.{AreDifferent, IsCycle, IsShortestThrough, IsUpTo, Leads, is_among}
-use Rattle.iso_types.specs.Ids.{conn_eq}
+use Rattle.std.proofs.Common.{◌≡◌, ℕ, zero, suc, ◌<◌, ◌≤◌, ◌⊎◌, inl, inr, Bool, true, false, List, [], ◌∷◌, ◌++◌, length, refl, sym, ◌∙◌, ap, subst, arith, append_assoc, append-nil}
+use Rattle.std.proofs.lemmas.Bool.{cases_lt, ne_eqb}
+use Rattle.iso_types.specs.Cycles.{AreDifferent, IsCycle, IsUpTo, Leads, is_among}
 use Rattle.iso_types.specs.declared.value.Conn.{Conn}
-use Rattle.iso_waitgraph.proofs.Sets.{or-left, or-right}
 use Rattle.iso_waitgraph.specs.Walks.{Falls, IsAway, IsLeastWay, IsNoNearer, Walk}
 
 pub conn-is : (c d : Conn) → c.0 ≡ d.0 → c ≡ d
@@ -39,11 +37,11 @@ way-longer edge end at next k ds near e away least h = record { falls = (away, h
       let walk : Walk edge end (suc k) x = subst P (ap suc short) (walk-of edge end x es way.1) in
       let first : next.0 ≤ x.0 = least x way.0 (record { walk = walk; no_less = λ j l less. near x j way.0 l less }) in
       elim (cases_lt next.0 x.0) [
-        inl l ↦ inl l
-      | inr g ↦
-          let here : next ≡ x = conn-is next x (omega arith) in
-          let Q : Conn → Type 0 = λ c. Leads edge c es end in
-          inr (here, h.least es (subst Q (sym here) way.1) short)
+        | inl l ↦ inl l
+        | inr g ↦
+            let here : next ≡ x = conn-is next x (omega arith) in
+            let Q : Conn → Type 0 = λ c. Leads edge c es end in
+            inr (here, h.least es (subst Q (sym here) way.1) short)
       ]
 
 -- no way on where the end is next
@@ -65,13 +63,13 @@ apart edge end v m zero (d ∷ ds) h out f = absurd f
 apart edge end v m (suc k) [] h out f = absurd f
 apart edge end v m (suc k) (d ∷ ds) h out f =
     let not_here : v.0 ≡ d.0 → ⊥ = λ e.
-      let same : v ≡ d = conn-is v d e in
-      let P : Conn → Type 0 = λ c. IsAway edge end m c in
-      let away : IsAway edge end m d = subst P same h in
-      elim out [
-        inl none ↦ f.0.no_less m (omega arith) away.walk
+    let same : v ≡ d = conn-is v d e in
+    let P : Conn → Type 0 = λ c. IsAway edge end m c in
+    let away : IsAway edge end m d = subst P same h in
+    elim out [
+      | inl none ↦ f.0.no_less m (omega arith) away.walk
       | inr more ↦ away.no_less (suc k) more f.0.walk
-      ] in
+    ] in
     let rest : is_among v ds ≡ false = apart edge end v m k ds h (elim out [ inl none ↦ inl none | inr more ↦ inr (omega arith) ]) f.1 in
     rw (ne_eqb v.0 d.0 not_here) rest
 
@@ -98,7 +96,7 @@ pub completes-more : (edge : Conn → Conn → Bool) (start : Conn) (last : ℕ)
     → Completes edge start last at (suc k) cycle → Completes edge start last next k (cycle ++ next ∷ [])
 completes-more edge start last at next k cycle near e away least h ds way =
     let t : (es : List Conn) × (cycle ++ (next ∷ ds) ≡ start ∷ es) × IsLeastWay edge start start last es =
-      h (next ∷ ds) (way-longer edge start at next k ds near e away least way) in
+    h (next ∷ ds) (way-longer edge start at next k ds near e away least way) in
     (t.0, append_assoc cycle (next ∷ []) ds ∙ t.1, t.2)
 
 pub completes-none : (edge : Conn → Conn → Bool) (start : Conn) (last : ℕ) (at w : Conn) (cycle : List Conn)

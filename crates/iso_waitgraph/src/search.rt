@@ -39,12 +39,10 @@ fn levels(edges: &[Edges; 32], end: Conn) -> [Edges; 32]
 
 // The nearest level to which there is an edge.
 fn nearest(targets: Edges, levels: &[Edges; 32]) -> Option<usize>
-    ensures {
-        MatchOption result ((j : ℕ) (w : Connection) → j < 32 → has_edge targets w ≡ true → has_edge (set_at levels.now j) w ≡ true → ⊥)
-            (λ k. (k < 32)
-                × ((w : Connection) × (has_edge targets w ≡ true) × (has_edge (set_at levels.now k) w ≡ true))
-                × ((j : ℕ) (w : Connection) → j < k → has_edge targets w ≡ true → has_edge (set_at levels.now j) w ≡ true → ⊥))
-    }
+    ensures { MatchOption result ((j : ℕ) (w : Connection) → j < 32 → has_edge targets w ≡ true → has_edge (set_at levels.now j) w ≡ true → ⊥)
+        (λ k. (k < 32)
+        × ((w : Connection) × (has_edge targets w ≡ true) × (has_edge (set_at levels.now k) w ≡ true))
+        × ((j : ℕ) (w : Connection) → j < k → has_edge targets w ≡ true → has_edge (set_at levels.now j) w ≡ true → ⊥)) }
 {
     for (k, level) in levels.iter().enumerate() {
         if targets.meets(*level) {
@@ -90,10 +88,8 @@ fn step(targets: Edges, level: Edges) -> Conn
 fn through(edges: &[Edges; 32], start: Conn) -> Option<Cycle>
     requires within { start.0 < 32 }
     requires least { (q : List Connection) (d : Connection) → IsCycle (leads edges.now) q → is_among d q ≡ true → start.0 ≤ d.0 }
-    ensures {
-        MatchOption result ((q : List Connection) → IsCycle (leads edges.now) q → is_among start q ≡ true → ⊥)
-            (IsShortestThrough (leads edges.now) start)
-    }
+    ensures { MatchOption result ((q : List Connection) → IsCycle (leads edges.now) q → is_among start q ≡ true → ⊥)
+        (IsShortestThrough (leads edges.now) start) }
 {
     let levels = levels(edges, start);
     match nearest(edges[start.0 as usize], &levels) {
@@ -116,4 +112,71 @@ pub fn cycle(edges: &[Edges; 32]) -> Option<Cycle>
         }
     }
     None
+}
+
+#[cfg(test)]
+mod tests {
+    use super::*;
+
+    // The sets of edges of connections 0, 1, 2 ..; the others have none.
+    fn graph(bits: &[u32]) -> [Edges; 32] {
+        let mut sets = [Edges::none(); 32];
+        for (set, bits) in sets.iter_mut().zip(bits.iter()) {
+            *set = Edges(*bits);
+        }
+        sets
+    }
+
+    #[test]
+    fn chosen_cycles(rt: HostRuntime) {
+        let cases: [(&[u32], &[u8]); 9] = [
+            // no edges
+            (&[], &[]),
+            // edges without a cycle
+            (&[0b010, 0b100, 0], &[]),
+            // a ring of three
+            (&[0b010, 0b100, 0b001], &[0, 1, 2]),
+            // of two cycles the one with the least member
+            (&[0b1000, 0b0100, 0b0010, 0b0001], &[0, 3]),
+            // of two shortest ones the least list
+            (&[0b0110, 0b1000, 0b1000, 0b0001], &[0, 1, 3]),
+            // the shortest one, though its list is not the least
+            (&[0b00110, 0b01000, 0b10000, 0b10000, 0b00001], &[0, 2, 4]),
+            // a longer one through the least connection before a shorter one elsewhere
+            (&[0b00010, 0b00100, 0b00001, 0b10000, 0b01000], &[0, 1, 2]),
+            // the least connection lies on none
+            (&[0b010, 0b100, 0b010], &[1, 2]),
+            // an edge to itself
+            (&[0b10, 0b10], &[1]),
+        ];
+        for (bits, want) in cases.iter() {
+            match cycle(&graph(bits)) {
+                Some(found) => {
+                    assert!(rt; found.len() as usize == want.len());
+                    for at in 0..found.len() {
+                        assert!(rt; found.member(at) == Conn(want[at as usize]));
+                    }
+                }
+                None => assert!(rt; want.is_empty()),
+            }
+        }
+    }
+
+    #[test]
+    fn ring_of_all_connections(rt: HostRuntime) {
+        let mut ring = [Edges::none(); 32];
+        for place in 0..31 {
+            ring[place] = ring[place].with(Conn(place as u8 + 1));
+        }
+        ring[31] = ring[31].with(Conn(0));
+        match cycle(&ring) {
+            Some(found) => {
+                assert!(rt; found.len() == 32);
+                for at in 0..found.len() {
+                    assert!(rt; found.member(at) == Conn(at));
+                }
+            }
+            None => assert!(rt; false),
+        }
+    }
 }

@@ -1,4 +1,4 @@
-use Rattle.std.proofs.Common.{◌≡◌, ◌≤◌, true, ℕ, List}
+use Rattle.std.proofs.Common.{◌≡◌, ◌≤◌, true, List}
 use Rattle.iso_types.specs.Cycles.{IsCycle, is_among}
 use Rattle.iso_types.specs.Edges.{leads}
 use Rattle.iso_types.specs.declared.value.Conn.{Conn}

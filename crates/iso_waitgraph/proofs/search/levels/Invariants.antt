@@ -9,5 +9,5 @@ invariant-loop-k l = record {
   full : length l.levels ≡ 32;
   known : AreLevels l.edges l.fn.end l.levels l.k;
   level : (v : Conn) → (has_edge l.level v ≡ true) ↔ IsAway (leads l.edges) l.fn.end (l.k - 1) v;
-  seen : (v : Conn) → (has_edge l.seen v ≡ true) ↔ ((j : ℕ) × (j < l.k) × Walk (leads l.edges) l.fn.end j v)
+  seen : (v : Conn) → (has_edge l.seen v ≡ true) ↔ ((j : ℕ) × (j < l.k) × Walk (leads l.edges) l.fn.end j v);
 }

@@ -1,4 +1,4 @@
-use Rattle.std.proofs.Common.{◌≡◌, ℕ, length, arith}
+use Rattle.std.proofs.Common.{◌≡◌, length, arith}
 use Rattle.iso_types.specs.Edges.{leads}
 use Rattle.iso_waitgraph.proofs.Chosen.{no-cycle, no-nearer, way-chosen}
 use Rattle.iso_waitgraph.proofs.search.through.Goals as goal
@@ -22,8 +22,8 @@ returns-in-Some c =
     let edge = leads c.args.edges.now in
     let way = c.walk_back.ensures in
     rw way.1 (way-chosen edge c.args.start c.in-Some.last way.0 way.2
-      (no-nearer c.args.edges.now c.args.start c.levels-levels.result c.in-Some.last (omega (arith, near.0)) c.levels-levels.ensures near.2)
-      c.requires.least)
+    (no-nearer c.args.edges.now c.args.start c.levels-levels.result c.in-Some.last (omega (arith, near.0)) c.levels-levels.ensures near.2)
+    c.requires.least)
 
 pub returns-in-None : goal.returns-in-None
 unfolding leads

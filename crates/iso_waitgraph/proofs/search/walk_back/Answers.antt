@@ -1,5 +1,5 @@
-use Rattle.std.proofs.Common.{◌≡◌, ◌-◌, ◌<◌, ◌≤◌, ℕ, sym, suc, zero, true, subst, arith, length, length-append}
-use Rattle.iso_types.specs.Edges.{has_edge, leads}
+use Rattle.std.proofs.Common.{◌≡◌, ◌-◌, ◌<◌, ◌≤◌, ℕ, sym, suc, true, subst, arith, length-append}
+use Rattle.iso_types.specs.Edges.{leads}
 use Rattle.iso_types.specs.declared.value.Conn.{Conn}
 use Rattle.iso_waitgraph.specs.Walks.{IsAway, IsNoNearer}
 use Rattle.iso_waitgraph.proofs.Ways.{Completes, completes-more, completes-none, next-nearest, next-on}
@@ -27,22 +27,22 @@ loop-left-preserved c =
     let e : left ≡ suc k = omega arith in
     let short : left < 32 = omega arith in
     let away : IsAway edge start (suc k) next =
-      let P : ℕ → Type 0 = λ n. IsAway edge start n next in subst P e ((c.requires.levels left next short).0 c.step-at.ensures.level) in
+    let P : ℕ → Type 0 = λ n. IsAway edge start n next in subst P e ((c.requires.levels left next short).0 c.step-at.ensures.level) in
     let near : IsNoNearer edge start (suc k) at =
-      let P : ℕ → Type 0 = λ n. IsNoNearer edge start n at in subst P e c.loop-left.invariant.nearest in
+    let P : ℕ → Type 0 = λ n. IsNoNearer edge start n at in subst P e c.loop-left.invariant.nearest in
     let ways : Completes edge start c.args.last at (suc k) c.loop-left.cycle =
-      let P : ℕ → Type 0 = λ n. Completes edge start c.args.last at n c.loop-left.cycle in subst P e c.loop-left.invariant.ways in
+    let P : ℕ → Type 0 = λ n. Completes edge start c.args.last at n c.loop-left.cycle in subst P e c.loop-left.invariant.ways in
     let least : (w : Conn) → edge at w ≡ true → IsAway edge start (suc k) w → next.0 ≤ w.0 =
-      λ w there level.
-        let P : ℕ → Type 0 = λ n. IsAway edge start n w in
-        c.step-at.ensures.least w there ((c.requires.levels left w short).1 (subst P (sym e) level)) in
+    λ w there level.
+    let P : ℕ → Type 0 = λ n. IsAway edge start n w in
+    c.step-at.ensures.least w there ((c.requires.levels left w short).1 (subst P (sym e) level)) in
     record {
       within = c.step-at.ensures.within;
       short = omega arith;
       room = rw (c.push-in-loop-left.ensures, length-append {A = Conn}) (omega arith);
       on = next-on edge start next k away;
       nearest = next-nearest edge start next k away;
-      ways = rw c.push-in-loop-left.ensures (completes-more edge start c.args.last at next k c.loop-left.cycle near c.step-at.ensures.target away least ways)
+      ways = rw c.push-in-loop-left.ensures (completes-more edge start c.args.last at next k c.loop-left.cycle near c.step-at.ensures.target away least ways);
     }
 
 pub returns : goal.returns

@@ -12,7 +12,7 @@ invariant-loop-left l = record {
   room : length l.cycle + l.left ≡ l.last + 1;
   on : (w : Conn) × (leads l.edges l.at w ≡ true) × IsAway (leads l.edges) l.fn.start l.left w;
   nearest : IsNoNearer (leads l.edges) l.fn.start l.left l.at;
-  ways : Completes (leads l.edges) l.fn.start l.last l.at l.left l.cycle
+  ways : Completes (leads l.edges) l.fn.start l.last l.at l.left l.cycle;
 }
 
 abbrev pub decreases-loop-left : goal.decreases-loop-left
