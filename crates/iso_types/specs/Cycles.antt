@@ -1,6 +1,6 @@
 -- The cycles of edges between connections, and the one that is chosen (this project's own).
 use Rattle.std.specs.List.{list_any}
-use Rattle.std.specs.Prelude.{◌≡◌, ◌<◌, ◌≤◌, Bool, true, false, List, [], ◌∷◌, length, ◌⊎◌}
+use Rattle.std.specs.Prelude.{◌≡◌, ℕ, zero, suc, ◌<◌, ◌≤◌, Bool, true, false, not, List, [], ◌∷◌, map, reverse, length, is_some, Some, None, filter, find, flat_map, Option, ◌⊎◌}
 use Rattle.iso_types.specs.Ids.{conn_eq}
 use Rattle.iso_types.specs.declared.value.Conn.{Conn}
 
