@@ -4,8 +4,8 @@ use Rattle.std.specs.Prelude.{Bool, not, ◌&&◌, ◌||◌, List, is_none, find
 use Rattle.iso_history.specs.Entries.{least_purgeable}
 use Rattle.iso_history.specs.Phases.{is_active, is_phase, phase, waits_grantable}
 use Rattle.iso_history.specs.World.{World}
-use Rattle.iso_queue.specs.Cycles.{chosen_cycle, is_on_cycle}
 use Rattle.iso_queue.specs.Queues.{edges, is_stuck}
+use Rattle.iso_types.specs.Cycles.{chosen_cycle, is_on_cycle}
 use Rattle.iso_types.specs.Head.{conns}
 use Rattle.iso_types.specs.declared.desk.Phase.{Phase}
 use Rattle.iso_types.specs.declared.desk.Phase.TheVariants.{Idle}

@@ -1,6 +1,6 @@
--- Which modes go together.
+-- The modes of locks: which go together, and what two of them come to.
 use Rattle.std.specs.List.{list_any}
-use Rattle.std.specs.Prelude.{ℕ, Bool, true, false, List, [], ◌∷◌, ◌==◌}
+use Rattle.std.specs.Prelude.{◌≡◌, ℕ, Bool, true, false, ◌&&◌, List, [], ◌∷◌, ◌==◌}
 use Rattle.iso_modes.specs.declared.Mode.{Mode}
 use Rattle.iso_modes.specs.declared.Mode.TheVariants.{In, Is, Ix, Ns, Nw, S, Six, U, X, Z}
 
@@ -22,6 +22,7 @@ unfoldable pub mode_eq : Mode → Mode → Bool
 mode_eq a b = mode_number a == mode_number b
 
 -- the modes that a mode goes with
+-- (Db2 LUW, 'Lock type compatibility'; the entries of U and NW are this project's own)
 unfoldable pub goes_with : Mode → List Mode
 goes_with In = In ∷ Is ∷ Ns ∷ S ∷ Ix ∷ Six ∷ U ∷ X ∷ Nw ∷ []
 goes_with Is = In ∷ Is ∷ Ns ∷ S ∷ Ix ∷ Six ∷ U ∷ []
@@ -34,11 +35,16 @@ goes_with X = In ∷ []
 goes_with Nw = In ∷ Ns ∷ []
 goes_with Z = []
 
--- the two modes go together
+-- the two modes go together (Db2 LUW, 'Lock type compatibility')
 unfoldable pub compatible : Mode → Mode → Bool
 compatible a b = list_any (λ m. mode_eq m b) (goes_with a)
 
--- the mode that goes with exactly the modes that go with both
+-- the mode goes with exactly the modes that go with both
+-- (Db2 LUW, 'Lock conversion', for one mode that is at least the other; the rule for all pairs is this project's own)
+unfoldable pub IsJoin : Mode → Mode → Mode → Type 0
+IsJoin m a b = (x : Mode) → compatible m x ≡ (compatible a x && compatible b x)
+
+-- the one mode that is the join of both, as a table (this project's own)
 unfoldable pub joined : Mode → Mode → Mode
 joined In b = b
 joined a In = a
@@ -78,11 +84,11 @@ joined Nw Six = X
 joined Nw U = Nw
 joined Nw Nw = Nw
 
--- the first mode is the second one, or more
+-- the first mode is the second one, or more (this project's own)
 unfoldable pub at_least : Mode → Mode → Bool
 at_least m low = mode_eq (joined m low) m
 
--- a table lock of the first mode covers a row or key lock of the second
+-- a table lock of the first mode covers a row or key lock of the second (this project's own)
 unfoldable pub covers : Mode → Mode → Bool
 covers S Ns = true
 covers S S = true
@@ -93,6 +99,7 @@ covers Z m = true
 covers _ _ = false
 
 -- the mode that an escalation asks for on a table held in this mode
+-- (Db2 LUW, 'Lock escalation'; the modes are this project's own)
 unfoldable pub escalated : Mode → Mode
 escalated Is = S
 escalated S = S

@@ -3,3 +3,5 @@ pub mod Value
 pub mod Ids
 pub mod Head
 pub mod Filled
+pub mod Edges
+pub mod Cycles

@@ -27,7 +27,3 @@ pub struct Desk {
     /// The number of log records when the open statement was dispatched.
     pub start: u32,
 }
-
-/// The connections to which a waiter has an edge: bit c for connection c.
-#[derive(Clone, Copy, PartialEq, Eq)]
-pub struct Edges(pub u32);

@@ -4,6 +4,7 @@
 
 mod cycle;
 mod desk;
+mod edges;
 mod gate;
 mod head;
 mod items;
@@ -12,7 +13,8 @@ mod text;
 mod value;
 
 pub use cycle::Cycle;
-pub use desk::{Desk, Edges, Phase};
+pub use desk::{Desk, Phase};
+pub use edges::Edges;
 pub use gate::{Gate, OpenGate, Place};
 pub use head::{
     Column, ColumnKind, Config, ConnDef, Edge, FirstRow, Head, IndexDef, Isolation, Range, TableDef,

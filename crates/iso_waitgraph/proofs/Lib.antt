@@ -1,0 +1,4 @@
+pub mod Sets
+pub mod Distances
+pub mod Ways
+pub mod Chosen
