@@ -1,5 +1,5 @@
 -- The world of the parts after a step, from what the step's contract says.
-use Rattle.std.proofs.Common.{◌≡◌, ◌<◌, ℕ, Bool, true, false, List, [], ◌∷◌, ◌++◌, refl, ap, sym, ◌∙◌, subst, if◌then◌else◌}
+use Rattle.std.proofs.Common.{◌≡◌, ℕ, Bool, true, false, List, [], ◌∷◌, ◌++◌, ap, ◌∙◌, if◌then◌else◌}
 use Rattle.std.specs.Prelude.{nat_lt}
 use Rattle.iso_types.specs.declared.desk.Phase.TheVariants.{Idle, Running}
 use Rattle.iso_types.specs.declared.head.Head.{Head}
@@ -8,7 +8,7 @@ use Rattle.iso_types.specs.declared.value.Rid.{Rid}
 use Rattle.iso_types.specs.declared.value.TableId.{TableId}
 use Rattle.iso_types.specs.declared.value.Value.{Value}
 use Rattle.iso_history.proofs.Snoc.{world-snoc}
-use Rattle.iso_history.specs.After.{after, start, world, world_from}
+use Rattle.iso_history.specs.After.{after, world, world_from}
 use Rattle.iso_history.specs.Makers.{by_agent, by_dispatcher}
 use Rattle.iso_history.specs.Phases.{phase}
 use Rattle.iso_history.specs.Versions.{slots}
