@@ -7,3 +7,4 @@ pub mod Tables
 pub mod LookSteps
 pub mod InsertSteps
 pub mod FirstParts
+pub mod Worlds
