@@ -1,4 +1,5 @@
-//! Where scripts come from and where output goes.
+//! Where scripts come from and where output goes: sources and sinks that count their faults, and
+//! the calls that read a script and write a text whole.
 #![tactic(auto)]
 
 mod memory;

@@ -241,6 +241,7 @@ impl Sink for SinkMemory {
 pub struct SinkPlain;
 
 impl SinkPlain {
+    /// The sink; it has no state.
     pub fn new() -> SinkPlain {
         SinkPlain
     }

@@ -7,19 +7,26 @@ use crate::traits::{Sink, Source};
 use iso_types::Items;
 use std::alloc::Global;
 
+// The most bytes of a script.
 const MOST: usize = 1_048_576;
 
+/// Why no script was read.
 #[derive(Clone, Copy, PartialEq, Eq, Debug)]
 pub enum ReadFault {
+    /// A read failed; the source's count of faults has risen in this call.
     ReadFault,
+    /// 1,048,577 bytes were read, one more than a script may have.
     TooLong,
+    /// Want of memory; the source may have been read.
     Memory,
 }
 
+/// A write failed; the sink's count of faults has risen in this call.
 #[derive(Clone, Copy, PartialEq, Eq, Debug)]
 pub struct WriteFault;
 
-/// All bytes of the source, up to the limit of a script.
+/// All bytes that the source has left, at most 1,048,576: `TooLong` exactly where one more was
+/// read, and no byte after that one is taken. It takes one pass over the bytes.
 pub fn read_script<S: Source>(alloc: Global, source: &mut S) -> Result<Items<u8>, ReadFault>
     ensures bytes { ReadsScript (S.left source.old) (S.left source.new) result }
     ensures end { OnOk result (IsAtEnd (S.left source.new)) }
@@ -46,7 +53,8 @@ pub fn read_script<S: Source>(alloc: Global, source: &mut S) -> Result<Items<u8>
     }
 }
 
-/// Writes all the bytes; after a fault a prefix of them is written.
+/// Writes all the bytes; after `WriteFault` the sink holds a prefix of them more. It takes no memory
+/// of its own, and one pass over the bytes.
 pub fn write_whole<K: Sink>(sink: &mut K, bytes: &[u8]) -> Result<(), WriteFault>
     ensures ok { OnOk result (Appends (K.held sink.old) (K.held sink.new) bytes.now) }
     ensures part { AppendsPart (K.held sink.old) (K.held sink.new) bytes.now }

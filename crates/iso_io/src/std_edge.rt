@@ -24,6 +24,7 @@ impl<T> Model for SourceStd<T> {
 }
 
 impl<T> SourceStd<T> {
+    /// A source over this reader, which has not failed yet.
     pub fn new(reader: T) -> SourceStd<T>
         ensures { result ≡ 0 }
     {
@@ -69,6 +70,7 @@ impl<T> Model for SinkStd<T> {
 }
 
 impl<T> SinkStd<T> {
+    /// A sink over this writer, which has not failed yet.
     pub fn new(writer: T) -> SinkStd<T>
         ensures { result ≡ 0 }
     {
