@@ -4,3 +4,4 @@ pub mod Ends
 pub mod Lines
 pub mod Carry
 pub mod Looks
+pub mod Start

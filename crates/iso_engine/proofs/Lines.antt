@@ -11,7 +11,7 @@ use Rattle.iso_history.specs.declared.entry.Act.TheVariants.{Dispatch}
 use Rattle.iso_history.specs.declared.entry.Entry.{Entry}
 use Rattle.iso_engine.specs.Runnable.{CanRun}
 use Rattle.iso_engine.specs.UnderWay.{IsIdle, IsRunning, first_conn}
-use Rattle.iso_script.specs.Built.{is_built_line, is_built_what, is_first}
+use Rattle.iso_script.specs.Built.{is_built_line, is_built_statement, is_built_what, is_first}
 use Rattle.iso_script.specs.Numbered.{rises_above}
 use Rattle.iso_script.specs.declared.script.Line.{Line}
 use Rattle.iso_script.specs.declared.script.What.{What}
@@ -87,3 +87,12 @@ taken head lines es k l s can within there asks idle =
         (ap (λ x. statement_in x.what) (sym there) ∙ ap statement_in asks)))
     (subst (λ x. IsIdle head lines es (x ∷ drop (k + 1) lines)) (sym there)
         (subst (λ ls. IsIdle head lines es ls) (rw add-one (drop-cons lines k l within)) idle))
+
+-- its statement is of this stage
+pub built_at : (head : Head) (lines : List Line) (k : ℕ) (l : Line) (s : Statement) → CanRun head lines → k < length lines
+    → l ≡ get_or lines k l → l.what ≡ What.Statement s → is_built_statement head s ≡ true
+built_at head lines k l s can within there asks =
+    let whole : is_built_line head (get_or lines k l) ≡ true = at_all (is_built_line head) lines k l within can.built in
+    let here : is_built_line head l ≡ true = subst (λ x. is_built_line head x ≡ true) (sym there) whole in
+    subst (λ x. is_built_what head x ≡ true) asks
+        (second_of (not l.free) (is_built_what head l.what) (second_of (is_first l.conn) (not l.free && is_built_what head l.what) here))

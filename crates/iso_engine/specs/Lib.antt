@@ -1,3 +1,4 @@
 pub mod UnderWay
 pub mod Runnable
 pub mod Scans
+pub mod Job

@@ -20,6 +20,7 @@ use iso_types::{Isolation, Items, Memory, Rid, Rows, TableId};
 use std::alloc::Global;
 
 /// A SELECT without a condition.
+#[derive(Clone, Copy)]
 pub struct Query<'a> {
     pub table: TableId,
     pub items: &'a Items2,

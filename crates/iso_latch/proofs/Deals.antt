@@ -9,7 +9,7 @@ use Rattle.atomic_table.specs.declared.shared.Seat.{Seat}
 use Rattle.atomic_table.proofs.Lists.{at_longer, at_last}
 use Rattle.iso_history.specs.declared.entry.Entry.{Entry}
 use Rattle.iso_latch.specs.Dealt.{Dealt, Fresh, ContinuesFrom}
-use Rattle.iso_latch.specs.Seen.{has, own, Continues}
+use Rattle.iso_latch.specs.Seen.{has, Continues}
 use Rattle.iso_latch.specs.Told.{seen_of, voices_of, head_of}
 use Rattle.iso_latch.specs.declared.pass.Pass.{Pass}
 use Rattle.iso_latch.specs.declared.view.View.{View}

@@ -1,4 +1,4 @@
-use Rattle.std.proofs.Common.{rules, arith, ◌≡◌, ℕ, ◌+◌, List, [], ◌∷◌, ◌++◌, length, sym, ap, ◌∙◌, subst, length-append}
+use Rattle.std.proofs.Common.{rules, arith, ◌≡◌, ℕ, [], ◌∷◌, ◌++◌, length, sym, ap, ◌∙◌, subst, length-append}
 use Rattle.iso_latch.specs.Dealt.{Dealt}
 use Rattle.iso_latch.specs.declared.pass.Pass.{Pass}
 use Rattle.iso_latch.specs.declared.tests.Driven.{Driven}

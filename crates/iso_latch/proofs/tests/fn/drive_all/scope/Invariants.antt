@@ -1,4 +1,4 @@
-use Rattle.std.proofs.Common.{◌≡◌, ◌+◌, ◌<◌, length}
+use Rattle.std.proofs.Common.{◌≡◌, ◌+◌, length}
 use Rattle.iso_latch.specs.Dealt.{Dealt}
 use Rattle.iso_latch.specs.Sent.{Promised}
 use Rattle.iso_latch.proofs.tests.fn.drive_all.scope.Given as goal

@@ -1,0 +1,102 @@
+ghost use Rattle.std.specs.Prelude.{◌≡◌, ℕ, ◌≤◌, ◌↔◌, List, [], ◌∷◌, ◌++◌, string_bytes, length, true, IsTrue, IfOk, codes};
+ghost use Rattle.std.specs.Io.KnownBytes.{Appends, Consumes};
+ghost use Rattle.iso_conduct.specs.Legal.{IsFinished};
+ghost use Rattle.iso_history.specs.Makers.{by_dispatcher};
+ghost use Rattle.iso_history.specs.declared.entry.Act.TheVariants.{Finish as Ends};
+ghost use Rattle.iso_engine.specs.Job.{IsExact, IsHeadline, IsOutcome, IsRow, IsTold, refusal_at, texts, usage};
+ghost use Rattle.iso_io.specs.Moves.{AppendsPart, HasRisen};
+ghost use Rattle.iso_script.specs.Built.{IsBuilt};
+ghost use Rattle.iso_script.specs.Numbered.{rises_above};
+ghost use Rattle.iso_script.specs.Reading.{reads};
+
+use crate::run::run_serial;
+use iso_history::{Act, Entry, History, Who};
+use iso_io::{ReadFault, Sink, Source, read_script, write_whole};
+use iso_render::transcript;
+use iso_script::{Script, ScriptFault};
+use iso_types::Gate;
+use std::alloc::{AllocError, Global};
+use std::sync::Wait;
+use std::thread::Threads;
+
+/// What a run of the program answers: its exit status, and the history, which is empty where no run began.
+#[derive(Drop)]
+pub struct Report {
+    pub status: u8,
+    pub history: History,
+}
+
+/// Whether the words name a job.
+fn is_row(words: &[String]) -> bool
+    ensures { IsTrue result ↔ IsRow (texts words.now) }
+{
+    match words {
+        [word] => word.as_str() == "serial",
+        _ => false,
+    }
+}
+
+/// Whether the history ends with Finish.
+fn is_finished(history: &History) -> bool
+    ensures { result ≡ true → IsFinished history.now.items }
+{
+    match history.as_slice() {
+        [.., last] => is_finish(last),
+        [] => false,
+    }
+}
+
+/// Whether the entry is the dispatcher's Finish.
+fn is_finish(entry: &Entry) -> bool
+    ensures { IsTrue result ↔ (entry.now ≡ by_dispatcher Ends) }
+{
+    matches!(
+        entry,
+        Entry {
+            who: Who::Dispatcher,
+            act: Act::Finish,
+        }
+    )
+}
+
+/// The line that refuses a script at its first bad line.
+fn refusal(alloc: Global, line: u32) -> Result<String, AllocError>
+    ensures { IfOk result (λ text. string_bytes text ≡ refusal_at line) }
+{
+    format!(in alloc; "LINE {line} UNBUILT AT 1\n")
+}
+
+/// A report without a run.
+fn without_run(status: u8, alloc: Global) -> Report
+    ensures status { result.status ≡ status }
+    ensures history { result.history.items ≡ [] }
+{
+    Report {
+        status,
+        history: History::new(alloc),
+    }
+}
+
+/// Runs a script and writes its transcript.
+fn run_script<K: Sink>(alloc: Global, script: &Script, sink: &mut K) -> Report
+    requires built { IsBuilt script.now }
+    requires rising { rises_above 0 script.now.lines ≡ true }
+    ensures told { IsTold script.now result.status result.history.items (K.held sink.old) (K.held sink.new) }
+    ensures fault { result.status ≡ 4 → HasRisen (K.faults sink.old) (K.faults sink.new) }
+{
+    let history = match run_serial(alloc, script, None) {
+        Ok(history) => history,
+        Err(_) => return without_run(5, alloc),
+    };
+    if !is_finished(&history) {
+        return Report { status: 5, history };
+    }
+    let text = match transcript(alloc, script, &history) {
+        Ok(text) => text,
+        Err(_) => return Report { status: 5, history },
+    };
+    match write_whole(sink, text.as_slice()) {
+        Ok(()) => Report { status: 0, history },
+        Err(_) => Report { status: 4, history },
+    }
+}
