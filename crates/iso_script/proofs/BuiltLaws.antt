@@ -1,6 +1,6 @@
 -- A script that is read has the form that the run relies on.
-use Rattle.std.proofs.Common.{◌≡◌, ℕ, zero, suc, ◌+◌, ◌≤◌, ◌<◌, Bool, true, false, not, cond, List, [], ◌∷◌, ◌++◌, length, map, Option, Some, None, refl, sym, ap, subst, ◌∙◌, ◌⊎◌, inl, inr, length-append, arith}
-use Rattle.std.specs.Prelude.{MatchBool, ◌&&◌, ◌==◌, find, nat_lt, slice_get}
+use Rattle.std.proofs.Common.{◌≡◌, ℕ, ◌+◌, ◌≤◌, ◌<◌, Bool, true, false, not, cond, List, [], ◌∷◌, ◌++◌, length, map, Option, Some, None, refl, sym, ap, subst, ◌∙◌, inl, inr, length-append, arith}
+use Rattle.std.specs.Prelude.{MatchBool, ◌&&◌, find, nat_lt, slice_get}
 use Rattle.std.specs.List.{list_all}
 use Rattle.std.specs.Option.{option_map, option_map_or}
 use Rattle.std.proofs.lemmas.Bool.{lt-ltb, ltb-true}
@@ -11,7 +11,7 @@ use Rattle.iso_types.specs.declared.head.Head.{Head}
 use Rattle.iso_types.specs.declared.head.Column.{Column}
 use Rattle.iso_types.specs.declared.head.TableDef.{TableDef}
 use Rattle.iso_types.specs.declared.value.Value.{Value}
-use Rattle.iso_types.specs.Head.{row_fits, width_of}
+use Rattle.iso_types.specs.Head.{row_fits}
 use Rattle.iso_sql.specs.declared.statement.Statement.{Statement}
 use Rattle.iso_sql.specs.declared.statement.Statement.TheVariants as statement
 use Rattle.iso_grammar.specs.declared.token.Token.{Token}
@@ -20,7 +20,6 @@ use Rattle.iso_grammar.specs.Lines as text
 use Rattle.iso_script.specs.Built.{IsBuilt, is_built_statement, is_built_line, is_open_behind, is_commit}
 use Rattle.iso_script.specs.declared.script.Line.{Line}
 use Rattle.iso_script.specs.declared.script.Script.{Script}
-use Rattle.iso_script.specs.declared.script.What.TheVariants as what
 use Rattle.iso_script.specs.declared.reader.Event.{Event}
 use Rattle.iso_script.specs.declared.reader.Event.TheVariants as event
 use Rattle.iso_script.specs.declared.reader.Place.{Place}

@@ -1,10 +1,9 @@
 -- Lines one after the other.
-use Rattle.std.proofs.Common.{◌≡◌, ℕ, ◌+◌, Bool, true, false, List, [], ◌∷◌, Option, Some, None, Ok, Err, refl, sym, ap, subst, ◌∙◌, ◌⊎◌, inl, inr}
+use Rattle.std.proofs.Common.{◌≡◌, ℕ, ◌+◌, Bool, true, false, List, [], ◌∷◌, Option, Some, None, Ok, Err, refl, sym, subst, ◌∙◌, ◌⊎◌, inl, inr}
 use Rattle.std.specs.Prelude.{MatchBool}
 use Rattle.iso_grammar.specs.declared.token.Token.{Token}
 use Rattle.iso_grammar.specs.Lex.{tokens, is_skipped}
 use Rattle.iso_grammar.specs.Lines as text
-use Rattle.iso_grammar.proofs.Lists.{same_refl}
 use Rattle.iso_grammar.proofs.ScriptLaws.{IsExact}
 use Rattle.iso_script.specs.declared.reader.Event.{Event}
 use Rattle.iso_script.specs.declared.reader.Reader.{Reader}

@@ -1,7 +1,7 @@
 -- The scripts that this stage of the project runs: one table of integer columns, one connection, INSERT, SELECT .. WITH UR
 -- and COMMIT, at most 1,000 statements, the last of them a COMMIT. // this project's own
 use Rattle.std.specs.List.{list_all}
-use Rattle.std.specs.Prelude.{◌≡◌, ◌≤◌, ℕ, Bool, true, false, not, ◌&&◌, List, [], ◌∷◌, length, nat_lt, ◌==◌, Option, Some, None}
+use Rattle.std.specs.Prelude.{◌≡◌, ◌≤◌, Bool, true, false, not, ◌&&◌, List, [], ◌∷◌, length, nat_lt, ◌==◌, Option, Some, None}
 use Rattle.iso_types.specs.Head.{row_fits, width_of}
 use Rattle.iso_types.specs.declared.head.Head.{Head}
 use Rattle.iso_types.specs.declared.head.Isolation.TheVariants.{Ur}

@@ -1,5 +1,5 @@
 -- Which bytes are a script of this stage, and which is the first bad line of others.
-use Rattle.std.specs.Prelude.{◌≡◌, ℕ, Bool, true, false, List, [], Result, Ok, Err}
+use Rattle.std.specs.Prelude.{◌≡◌, ℕ, Bool, true, false, List, []}
 use Rattle.std.specs.Prelude.{Some}
 use Rattle.iso_types.specs.declared.head.Config.{Config}
 use Rattle.iso_grammar.specs.Lex.{tokens, is_skipped}

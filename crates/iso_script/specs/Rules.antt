@@ -1,7 +1,7 @@
 -- The lines of a script of this stage: what may stand in each position, and what it stands for.
 use Rattle.std.specs.List.{list_any}
 use Rattle.std.specs.Option.{option_map, option_map_or}
-use Rattle.std.specs.Prelude.{◌≡◌, ℕ, ◌<◌, Bool, true, false, not, ◌&&◌, if◌then◌else◌, List, [], ◌∷◌, ◌++◌, map, length, find, nat_lt, nat_le, slice_get, Option, Some, None}
+use Rattle.std.specs.Prelude.{ℕ, Bool, true, false, not, ◌&&◌, if◌then◌else◌, List, [], ◌∷◌, ◌++◌, map, length, find, nat_lt, nat_le, slice_get, Option, Some, None}
 use Rattle.iso_types.specs.Head.{row_fits}
 use Rattle.iso_types.specs.Ids.{text_eq}
 use Rattle.iso_types.specs.declared.head.Column.{Column}

@@ -1,5 +1,5 @@
 -- What taking one line answers.
-use Rattle.std.specs.Prelude.{◌≡◌, ℕ, Bool, true, false, List, Result, Ok, Err, MatchBool}
+use Rattle.std.specs.Prelude.{◌≡◌, ℕ, false, List, Result, Ok, Err, MatchBool}
 use Rattle.iso_grammar.specs.Lex.{is_skipped}
 use Rattle.iso_script.specs.declared.reader.Event.{Event}
 use Rattle.iso_script.specs.declared.reader.Reader.{Reader}

@@ -3,27 +3,53 @@ use iso_types::Items;
 use std::alloc::Global;
 
 // The least script of this stage, with each form of statement.
-const FIRST: &[u8] = b"DB2ISO 1\nTABLE T (N INTEGER)\nCONNECT A\nBEGIN\nA: INSERT INTO T VALUES (7)\nA: SELECT N FROM T WITH UR\nA: COMMIT\nEND\n";
+const FIRST: &[u8] =
+    b"DB2ISO 1\nTABLE T (N INTEGER)\nCONNECT A\nBEGIN\nA: INSERT INTO T VALUES (7)\nA: SELECT N FROM T WITH UR\nA: COMMIT\nEND\n";
 
 // The same with comments, empty lines, CR LF, tabs and small letters; its statements stand in the lines 8, 9 and 11.
-const LOOSE: &[u8] = b"-- a script\r\n\r\ndb2iso\t01\r\ntable t(n integer)\r\n \t \r\n\tConnect a\r\nbegin\r\na:insert into t values(-7)\r\na : select n from t with ur\r\n-- end\r\nA : commit\r\nend\r\n\r\n--";
+const LOOSE: &[u8] =
+    b"-- a script\r\n\r\ndb2iso\t01\r\ntable t(n integer)\r\n \t \r\n\tConnect a\r\nbegin\r\na:insert into t values(-7)\r\na : select n from t with ur\r\n-- end\r\nA : commit\r\nend\r\n\r\n--";
 
 // Bytes that are no script of this stage, and their first bad line.
 const REFUSED: [(&[u8], u32); 14] = [
     (b"", 1),
     (b"DB2ISO 1\nBEGIN\nEND\n", 2),
-    (b"DB2ISO 1\nTABLE T (N INTEGER)\nCONNECT A\nBEGIN\nA: INSERT INTO T VALUES (7)\nA: SELECT N FROM T WITH UR\nA: COMMIT\n", 8),
+    (
+        b"DB2ISO 1\nTABLE T (N INTEGER)\nCONNECT A\nBEGIN\nA: INSERT INTO T VALUES (7)\nA: SELECT N FROM T WITH UR\nA: COMMIT\n",
+        8,
+    ),
     (b"DB2ISO 2\n", 1),
     (b" -- no comment\n", 1),
     (b"DB2ISO 1\r", 1),
-    (b"DB2ISO 1\nTABLE T (A INTEGER, B INTEGER, C INTEGER, D INTEGER, E INTEGER, F INTEGER, G INTEGER, H INTEGER, I INTEGER)\n", 2),
+    (
+        b"DB2ISO 1\nTABLE T (A INTEGER, B INTEGER, C INTEGER, D INTEGER, E INTEGER, F INTEGER, G INTEGER, H INTEGER, I INTEGER)\n",
+        2,
+    ),
     (b"DB2ISO 1\nTABLE T (A INTEGER, a INTEGER)\n", 2),
-    (b"DB2ISO 1\nTABLE T (ABCDEFGHIJKLMNOPQRSTUVWXYZ1234567 INTEGER)\n", 2),
-    (b"DB2ISO 1\nTABLE T (N INTEGER)\nCONNECT A\nBEGIN\nA: SELECT M FROM T WITH UR\n", 5),
-    (b"DB2ISO 1\nTABLE T (N INTEGER)\nCONNECT A\nBEGIN\nA: INSERT INTO T VALUES (2147483648)\n", 5),
-    (b"DB2ISO 1\nTABLE T (N INTEGER, M INTEGER)\nCONNECT A\nBEGIN\nA: INSERT INTO T VALUES (1)\n", 5),
-    (b"DB2ISO 1\nTABLE T (N INTEGER)\nCONNECT A\nBEGIN\nA: INSERT INTO T VALUES (1)\nEND\n", 6),
-    (b"DB2ISO 1\nTABLE T (N INTEGER)\nCONNECT A\nBEGIN\nEND\nEND\n", 6),
+    (
+        b"DB2ISO 1\nTABLE T (ABCDEFGHIJKLMNOPQRSTUVWXYZ1234567 INTEGER)\n",
+        2,
+    ),
+    (
+        b"DB2ISO 1\nTABLE T (N INTEGER)\nCONNECT A\nBEGIN\nA: SELECT M FROM T WITH UR\n",
+        5,
+    ),
+    (
+        b"DB2ISO 1\nTABLE T (N INTEGER)\nCONNECT A\nBEGIN\nA: INSERT INTO T VALUES (2147483648)\n",
+        5,
+    ),
+    (
+        b"DB2ISO 1\nTABLE T (N INTEGER, M INTEGER)\nCONNECT A\nBEGIN\nA: INSERT INTO T VALUES (1)\n",
+        5,
+    ),
+    (
+        b"DB2ISO 1\nTABLE T (N INTEGER)\nCONNECT A\nBEGIN\nA: INSERT INTO T VALUES (1)\nEND\n",
+        6,
+    ),
+    (
+        b"DB2ISO 1\nTABLE T (N INTEGER)\nCONNECT A\nBEGIN\nEND\nEND\n",
+        6,
+    ),
 ];
 
 // The lines of a script that is read.

@@ -1,12 +1,11 @@
-use Rattle.std.proofs.Common.{◌≡◌, ℕ, List, sym, ap, ◌∙◌, ◌⊎◌, inl, inr, refl}
+use Rattle.std.proofs.Common.{sym, ap, ◌∙◌, inl, inr, refl}
 use Rattle.iso_grammar.specs.Lex.{is_skipped}
 use Rattle.iso_grammar.specs.Lines.{lines}
 use Rattle.iso_grammar.proofs.ScriptLaws as laws
-use Rattle.iso_script.specs.declared.fault.LineCause.{LineCause}
 use Rattle.iso_script.specs.declared.fault.LineCause.TheVariants as cause
 use Rattle.iso_script.specs.declared.reader.Reader.{Reader}
 use Rattle.iso_script.specs.Rules.{advance}
-use Rattle.iso_script.specs.Reading.{fits, wrong, is_ended, start, BadFrom, bad}
+use Rattle.iso_script.specs.Reading.{fits, wrong, is_ended, start}
 use Rattle.iso_script.proofs.ReadLaws.{line-exact, only_unbuilt}
 use Rattle.iso_script.proofs.BuiltLaws.{reads-built}
 use Rattle.iso_script.proofs.NumberLaws.{reads-rising}
