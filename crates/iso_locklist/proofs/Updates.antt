@@ -2,22 +2,13 @@
 use Rattle.std.proofs.Common.{◌≡◌, ◌<◌, ◌≤◌, ◌+◌, ℕ, suc, Bool, true, false, not, ◌&&◌, ◌||◌, List, [], ◌∷◌, ◌++◌, length, take, drop, get_or, refl, ap, sym, ◌∙◌, arith, append_assoc, add-one, drop-cons}
 use Rattle.std.specs.Prelude.{if◌then◌else◌, slice_set, count_by}
 use Rattle.std.proofs.lemmas.List.{set_split, take_more, take_all, drop_all, append-nil}
-use Rattle.iso_locklist.specs.Places.{line_at, nobody, taken}
+use Rattle.iso_locklist.specs.Places.{IsAbsent, IsPlaceOf, line_at, nobody, taken, updated}
 use Rattle.iso_locklist.specs.declared.places.Place.{Place}
 use Rattle.iso_locklist.proofs.Names.{name_same, name_like}
 use Rattle.iso_queue.specs.Lines.{Line, is_touched}
 use Rattle.iso_types.specs.Ids.{name_eq}
 use Rattle.iso_types.specs.declared.value.Conn.{Conn}
 use Rattle.iso_types.specs.declared.value.Name.{Name}
-
--- the first place of the name gets the line; where there is none, one is added
-abbrev pub updated : List Place → Name → Line → List Place
-updated [] n q = record { name = n; queue = q } ∷ []
-updated (p ∷ ps) n q = if name_eq p.name n then record { name = p.name; queue = q } ∷ ps else p ∷ updated ps n q
-
--- the place is the name's
-abbrev pub is_at : Name → Place → Bool
-is_at n p = name_eq p.name n
 
 updated_here : (p : Place) (ps : List Place) (n : Name) (q : Line) → name_eq p.name n ≡ true → updated (p ∷ ps) n q ≡ record { name = p.name; queue = q } ∷ ps
 updated_here p ps n q e = rw e refl
@@ -55,3 +46,35 @@ other_by p ps n m q ne false e ih = ap (λ xs. line_at xs m) (updated_past p ps 
 pub line_at_other : (ps : List Place) (n m : Name) (q : Line) → name_eq n m ≡ false → line_at (updated ps n q) m ≡ line_at ps m
 line_at_other [] n m q ne = line_past (record { name = n; queue = q }) [] m ne
 line_at_other (p ∷ ps) n m q ne = other_by p ps n m q ne (name_eq p.name n) refl (line_at_other ps n m q ne)
+
+drop_at : {X : Type 0} (xs : List X) (i : ℕ) (d : X) → i < length xs → drop i xs ≡ get_or xs i d ∷ drop (i + 1) xs
+drop_at xs i d lt = rw (drop-cons xs i d lt, add-one) refl
+
+-- what is left of a walk that has passed other names
+pub record Walk (ps : List Place) (n : Name) (i : ℕ) : Type 0 where
+  pub left : (q : Line) → updated ps n q ≡ take i ps ++ updated (drop i ps) n q
+  pub line : line_at ps n ≡ line_at (drop i ps) n
+
+pub walk_past : (ps : List Place) (n : Name) (i : ℕ) (d : Place) → i < length ps → name_eq (get_or ps i d).name n ≡ false → Walk ps n i → Walk ps n (i + 1)
+walk_past ps n i d lt ne w = record {
+  left = λ q. w.left q ∙ ap (λ xs. take i ps ++ updated xs n q) (drop_at ps i d lt)
+      ∙ ap (λ xs. take i ps ++ xs) (updated_past (get_or ps i d) (drop (i + 1) ps) n q ne)
+      ∙ (rw (take_more ps i d lt, append_assoc) refl);
+  line = w.line ∙ ap (λ xs. line_at xs n) (drop_at ps i d lt) ∙ line_past (get_or ps i d) (drop (i + 1) ps) n ne;
+}
+
+pub walk_here : (ps : List Place) (n : Name) (i : ℕ) (p : Place) → i < length ps → p ≡ get_or ps i p → name_eq p.name n ≡ true → Walk ps n i → IsPlaceOf ps n i p
+walk_here ps n i p lt at e w = record {
+  within = lt;
+  set = λ q. set_split ps i (record { name = p.name; queue = q }) lt
+      ∙ sym (w.left q ∙ ap (λ xs. take i ps ++ updated xs n q) (drop_at ps i p lt)
+        ∙ ap (λ x. take i ps ++ updated (x ∷ drop (i + 1) ps) n q) (sym at)
+        ∙ ap (λ xs. take i ps ++ xs) (updated_here p (drop (i + 1) ps) n q e) ∙ (rw add-one refl));
+  line = w.line ∙ ap (λ xs. line_at xs n) (drop_at ps i p lt) ∙ ap (λ x. line_at (x ∷ drop (i + 1) ps) n) (sym at) ∙ line_here p (drop (i + 1) ps) n e;
+}
+
+pub walk_end : (ps : List Place) (n : Name) (i : ℕ) → length ps ≤ i → Walk ps n i → IsAbsent ps n
+walk_end ps n i le w = record {
+  pushed = λ q. sym (w.left q ∙ (rw (take_all, drop_all) refl));
+  line = w.line ∙ (rw drop_all refl);
+}
