@@ -1,7 +1,8 @@
 -- The counts after one name's line has changed.
-use Rattle.std.proofs.Common.{◌≡◌, ◌<◌, ◌≤◌, ◌+◌, ◌≢◌, ℕ, zero, suc, Bool, true, false, List, [], ◌∷◌, length, set, get_or, refl, ap, sym, ◌∙◌, subst, arith, get_or-set_other, get_or-set_same}
+use Rattle.std.proofs.Common.{◌≡◌, ◌<◌, ◌≤◌, ◌+◌, ◌≢◌, ℕ, zero, suc, Bool, true, false, List, [], ◌∷◌, length, set, get_or, replicate, refl, ap, sym, ◌∙◌, subst, arith, get_or-set_other, get_or-set_same}
 use Rattle.std.specs.Prelude.{if◌then◌else◌, count_by}
 use Rattle.std.proofs.Math.ListN.{length-set}
+use Rattle.std.proofs.lemmas.List.{get_or-replicate}
 use Rattle.std.proofs.lemmas.Bool.{eqb-true, eqb-false}
 use Rattle.std.proofs.lemmas.List.Sums.{sum_by-cons}
 use Rattle.iso_locklist.specs.Places.{IsCounted, all_taken, line_at, nobody, one, taken, taken_below, updated}
@@ -127,3 +128,12 @@ counted ps n q counts total k v t is same lt e f = record {
   each = λ c small. each_by ps n q counts total k v c is same lt small e (conn_eq (record { 0 = k }) (record { 0 = c })) refl;
   all = omega (arith, f, is.all, all_updated ps n q k same lt);
 }
+
+pub counted_none : IsCounted [] (replicate 32 0) 0
+unfolding all_taken
+counted_none = record { size = refl; each = λ c small. get_or-replicate 32 c 0 0 small; all = refl }
+
+-- a need is what the request adds
+pub needed : (before after : Bool) (need x : ℕ) → need ≡ (if before then 0 else 1) → after ≡ true → (x + need) + one before ≡ x + one after
+needed true after need x e f = rw (e, f) (omega arith)
+needed false after need x e f = rw (e, f) (omega arith)

@@ -1,10 +1,12 @@
 -- The lock list: names, each with its holders and waiters. The order of the names is of no matter.
 -- Db2 LUW, 'locklist' and 'maxlocks' configuration parameters; the unit of a slot is this project's own.
-use Rattle.std.specs.Prelude.{◌≡◌, ◌<◌, ◌++◌, length, slice_set, slice_index, ℕ, zero, suc, ◌+◌, Bool, true, false, not, ◌&&◌, ◌||◌, List, [], ◌∷◌, if◌then◌else◌, nat_lt, count_by}
+use Rattle.std.specs.Prelude.{◌≡◌, ◌<◌, ◌++◌, length, slice_set, slice_index, ℕ, zero, suc, ◌+◌, Bool, true, false, not, ◌&&◌, ◌||◌, List, [], ◌∷◌, if◌then◌else◌, nat_lt, count_by, Result, Ok, Err}
 use Rattle.iso_locklist.specs.declared.places.Place.{Place}
+use Rattle.iso_locklist.specs.declared.room.LockFault.{LockFault}
 use Rattle.iso_locklist.specs.declared.room.Room.{Room}
 use Rattle.iso_locklist.specs.declared.room.Room.TheVariants.{AtCapacity, AtShare, Free}
 use Rattle.iso_queue.specs.Lines.{Line, is_touched}
+use Rattle.iso_queue.specs.declared.types.Asked.{Asked}
 use Rattle.iso_types.specs.Ids.{name_eq}
 use Rattle.iso_types.specs.declared.value.Conn.{Conn}
 use Rattle.iso_types.specs.declared.value.Name.{Name}
@@ -63,8 +65,22 @@ pub record IsCounted (ps : List Place) (counts : List ℕ) (total : ℕ) : Type 
   pub each : (c : ℕ) → c < 32 → slice_index counts c ≡ taken ps (record { 0 = c })
   pub all : total ≡ all_taken ps
 
--- whether a need of that many more names is at its limit: the share first, then the slots
+-- whether a need of that many more is at its limit: the share first, then the slots
+abbrev pub room_by : ℕ → ℕ → ℕ → ℕ → ℕ → Room
+room_by count total share slots more =
+    if nat_lt share (count + more) then AtShare else if nat_lt slots (total + more) then AtCapacity else Free
+
+-- the same for a connection of the lock list
 abbrev pub room_for : Ledger → Conn → ℕ → Room
-room_for l c more =
-    if nat_lt l.share (taken l.places c + more) then AtShare
-    else if nat_lt l.slots (all_taken l.places + more) then AtCapacity else Free
+room_for l c more = room_by (taken l.places c) (all_taken l.places) l.share l.slots more
+
+-- a request needs a slot, or none where the connection holds or awaits the name
+abbrev pub need_of : List Place → Conn → Name → ℕ
+need_of ps c n = if is_touched (line_at ps n) c then 0 else 1
+
+-- a request fails by a limit exactly where its need is at that limit
+abbrev pub IsLimited : Room → Result Asked LockFault → Type 0
+IsLimited AtShare result = result ≡ Err LockFault.AtShare
+IsLimited AtCapacity result = result ≡ Err LockFault.AtCapacity
+IsLimited Free (Err f) = f ≡ LockFault.Memory
+IsLimited Free (Ok a) = Unit {0}

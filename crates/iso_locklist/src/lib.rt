@@ -1,8 +1,10 @@
 //! The lock list: the holders and the queue of each lock name, and how many names each connection has.
 #![tactic(auto)]
 
+mod list;
 mod places;
 mod room;
 
+pub use list::LockList;
 pub use places::Place;
-pub use room::Room;
+pub use room::{LockFault, Room};

@@ -1,10 +1,14 @@
-ghost use Rattle.std.specs.Prelude.{◌≡◌, ◌<◌, length, slice_index_or, IfSome, IfNone};
-ghost use Rattle.iso_locklist.specs.Places.{IsAbsent, IsPlaceOf};
+ghost use Rattle.std.specs.Prelude.{◌≡◌, ◌<◌, length, slice_index_or, IfSome, IfNone, IfOk, OnOk, OnErr, if◌then◌else◌};
+ghost use Rattle.iso_locklist.specs.Places.{IsAbsent, IsPlaceOf, line_at, need_of, nobody, updated};
 ghost use Rattle.iso_locklist.specs.declared.places.Place.{Place as Entry};
+ghost use Rattle.iso_queue.specs.Lines.{asked, is_granted};
+ghost use Rattle.iso_queue.specs.declared.types.Asked.{Asked as Outcome};
 ghost use Rattle.iso_types.specs.Ids.{name_eq};
 
-use iso_queue::Queue;
-use iso_types::Name;
+use iso_modes::{Mode, Term};
+use iso_queue::{Asked, Queue};
+use iso_types::{Conn, Memory, Name};
+use std::alloc::Global;
 
 /// A name with its holders and waiters.
 #[derive(Drop)]
@@ -32,4 +36,69 @@ pub fn find_place(places: &[Place], name: &Name) -> Option<usize>
         }
     }
     None
+}
+
+/// The name's holders and waiters, or None where nobody holds or awaits it.
+pub fn queue_of<'a>(places: &'a [Place], name: &Name) -> Option<&'a Queue>
+    ensures some { IfSome result (λ q. q.now ≡ line_at places.now name.now) }
+    ensures none { IfNone result (line_at places.now name.now ≡ nobody) }
+{
+    match find_place(places, name) {
+        Some(at) => Some(&places[at].queue),
+        None => None,
+    }
+}
+
+/// The slots that a request needs.
+pub fn need(places: &[Place], conn: Conn, name: &Name) -> u32
+    ensures { result ≡ need_of places.now conn name.now }
+{
+    match queue_of(places, name) {
+        Some(queue) => {
+            if queue.touches(conn) {
+                0
+            } else {
+                1
+            }
+        }
+        None => 1,
+    }
+}
+
+fn ask_new(
+    places: &mut Vec<Place>,
+    alloc: Global,
+    conn: Conn,
+    name: &Name,
+    mode: Mode,
+    term: Term,
+) -> Result<Asked, Memory>
+    requires { IsAbsent places.old.items name.now }
+    ensures answer { IfOk result (λ a. a ≡ (if is_granted (line_at places.old.items name.now) conn mode then Outcome.Granted else Outcome.Queued)) }
+    ensures places { OnOk result (places.new.items ≡ updated places.old.items name.now (asked (line_at places.old.items name.now) conn mode term)) }
+    ensures err { OnErr result (places.new.items ≡ places.old.items) }
+{
+    let mut queue = Queue::new(alloc);
+    let asked = queue.ask(conn, mode, term)?;
+    places.push(Place { name: *name, queue })?;
+    Ok(asked)
+}
+
+/// Asks for the mode in the name's queue.
+pub fn ask(
+    places: &mut Vec<Place>,
+    alloc: Global,
+    conn: Conn,
+    name: &Name,
+    mode: Mode,
+    term: Term,
+) -> Result<Asked, Memory>
+    ensures answer { IfOk result (λ a. a ≡ (if is_granted (line_at places.old.items name.now) conn mode then Outcome.Granted else Outcome.Queued)) }
+    ensures places { OnOk result (places.new.items ≡ updated places.old.items name.now (asked (line_at places.old.items name.now) conn mode term)) }
+    ensures err { OnErr result (places.new.items ≡ places.old.items) }
+{
+    match find_place(places, name) {
+        Some(at) => places[at].queue.ask(conn, mode, term),
+        None => ask_new(places, alloc, conn, name, mode, term),
+    }
 }
