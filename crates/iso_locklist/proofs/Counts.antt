@@ -1,5 +1,5 @@
 -- The counts after one name's line has changed.
-use Rattle.std.proofs.Common.{◌≡◌, ◌<◌, ◌≤◌, ◌+◌, ◌≢◌, ℕ, zero, suc, Bool, true, false, List, [], ◌∷◌, length, set, get_or, replicate, refl, ap, sym, ◌∙◌, subst, arith, get_or-set_other, get_or-set_same}
+use Rattle.std.proofs.Common.{◌≡◌, ◌<◌, ◌≤◌, ◌+◌, ◌-◌, ◌≢◌, ℕ, zero, suc, Bool, true, false, List, [], ◌∷◌, length, set, get_or, replicate, refl, ap, sym, ◌∙◌, subst, arith, get_or-set_other, get_or-set_same}
 use Rattle.std.specs.Prelude.{if◌then◌else◌, count_by}
 use Rattle.std.proofs.Math.ListN.{length-set}
 use Rattle.std.proofs.lemmas.List.{get_or-replicate}
@@ -87,8 +87,8 @@ below_by ps n q k same m lt true e ih =
     let f : k ≡ m = eqb-true k m e in
     let le : m ≤ k = omega (arith, f) in
     let here : taken (updated ps n q) (record { 0 = m }) + one (is_touched (line_at ps n) (record { 0 = k })) ≡ taken ps (record { 0 = m }) + one (is_touched q (record { 0 = k }))
-      = subst (λ (j : ℕ). taken (updated ps n q) (record { 0 = j }) + one (is_touched (line_at ps n) (record { 0 = k })) ≡ taken ps (record { 0 = j }) + one (is_touched q (record { 0 = k })))
-        f (taken_updated ps n q (record { 0 = k })) in
+    = subst (λ (j : ℕ). taken (updated ps n q) (record { 0 = j }) + one (is_touched (line_at ps n) (record { 0 = k })) ≡ taken ps (record { 0 = j }) + one (is_touched q (record { 0 = k })))
+    f (taken_updated ps n q (record { 0 = k })) in
     omega (arith, here, below_less ps n q k same m le)
 below_by ps n q k same m lt false e ih =
     let ne : k ≡ m → ⊥ = eqb-false k m e in
@@ -137,3 +137,20 @@ counted_none = record { size = refl; each = λ c small. get_or-replicate 32 c 0 
 pub needed : (before after : Bool) (need x : ℕ) → need ≡ (if before then 0 else 1) → after ≡ true → (x + need) + one before ≡ x + one after
 needed true after need x e f = rw (e, f) (omega arith)
 needed false after need x e f = rw (e, f) (omega arith)
+
+-- what is given back is no more than the connection's count, and than the total
+pub freed_le : (ps : List Place) (n : Name) (q : Line) (counts : List ℕ) (total k freed : ℕ) → IsCounted ps counts total → k < 32
+    → one (is_touched (line_at ps n) (record { 0 = k })) ≡ freed + one (is_touched q (record { 0 = k })) → freed ≤ get_or counts k 0
+freed_le ps n q counts total k freed is lt e = omega (arith, e, is.each k lt, taken_updated ps n q (record { 0 = k }))
+
+pub freed_le_all : (ps : List Place) (n : Name) (q : Line) (counts : List ℕ) (total k freed : ℕ) → IsCounted ps counts total → SameOthers ps n q k → k < 32
+    → one (is_touched (line_at ps n) (record { 0 = k })) ≡ freed + one (is_touched q (record { 0 = k })) → freed ≤ total
+freed_le_all ps n q counts total k freed is same lt e = omega (arith, e, is.all, all_updated ps n q k same lt)
+
+pub counted_less : (ps : List Place) (n : Name) (q : Line) (counts : List ℕ) (total k freed : ℕ) → IsCounted ps counts total → SameOthers ps n q k → k < 32
+    → one (is_touched (line_at ps n) (record { 0 = k })) ≡ freed + one (is_touched q (record { 0 = k }))
+    → IsCounted (updated ps n q) (set counts k (get_or counts k 0 - freed)) (total - freed)
+counted_less ps n q counts total k freed is same lt e =
+    let le : freed ≤ get_or counts k 0 = freed_le ps n q counts total k freed is lt e in
+    let le2 : freed ≤ total = freed_le_all ps n q counts total k freed is same lt e in
+    counted ps n q counts total k (get_or counts k 0 - freed) (total - freed) is same lt (omega arith) (omega arith)

@@ -1,11 +1,12 @@
 -- Which connections a call's line change touches.
-use Rattle.std.proofs.Common.{◌≡◌, ℕ, Bool, true, false, not, ◌&&◌, ◌||◌, List, [], ◌∷◌, refl, ap, sym, subst, ◌∙◌}
+use Rattle.std.proofs.Common.{◌≡◌, ◌+◌, ℕ, Bool, true, false, not, ◌&&◌, ◌||◌, List, [], ◌∷◌, refl, ap, sym, subst, ◌∙◌}
 use Rattle.std.specs.List.{list_any}
 use Rattle.std.specs.Option.{option_map_or}
 use Rattle.std.specs.Prelude.{if◌then◌else◌, find, filter, is_some, Option, None, Some}
 use Rattle.std.proofs.lemmas.Cmp.{nat_eq_equiv}
 use Rattle.iso_modes.specs.declared.Mode.{Mode}
 use Rattle.iso_modes.specs.declared.Term.{Term}
+use Rattle.iso_locklist.specs.Places.{one, released}
 use Rattle.iso_queue.specs.Lines.{Line, asked, claimed, granted, is_granted, is_holder, is_touched, is_waiter, queued, raised, unheld, unqueued, wait_for, waiter_of, has_edge, taken_in}
 use Rattle.iso_queue.specs.declared.types.Hold.{Hold}
 use Rattle.iso_queue.specs.declared.types.Waiter.{Waiter}
@@ -190,3 +191,45 @@ claimed_own_by q c (Some x) e = taken_own q c x (touched_waits q c x e) (has_edg
 -- a claim keeps what its connection touches
 pub claimed_own : (q : Line) (c : Conn) → is_touched (claimed q c) c ≡ is_touched q c
 claimed_own q c = claimed_own_by q c (waiter_of q.waiters c) refl
+
+none_by : {X : Type 0} (p r : X → Bool) (x : X) (xs : List X) (a b : Bool) → p x ≡ a → r x ≡ b → (list_any p xs ≡ false → list_any p (filter r xs) ≡ false)
+    → list_any p (x ∷ xs) ≡ false → list_any p (filter r (x ∷ xs)) ≡ false
+none_by p r x xs true b e f ih none = cc (any_yes p x xs e)
+none_by p r x xs false true e f ih none = ap (list_any p) (kept r x xs f) ∙ any_no p x (filter r xs) e ∙ ih (sym (any_no p x xs e) ∙ none)
+none_by p r x xs false false e f ih none = ap (list_any p) (gone r x xs f) ∙ ih (sym (any_no p x xs e) ∙ none)
+
+none_left : {X : Type 0} (p r : X → Bool) (xs : List X) → list_any p xs ≡ false → list_any p (filter r xs) ≡ false
+none_left p r [] none = refl
+none_left p r (x ∷ xs) none = none_by p r x xs (p x) (r x) refl refl (none_left p r xs) none
+
+or_none : (a b : Bool) → (a || b) ≡ false → (a ≡ false) × (b ≡ false)
+or_none true b e = cc
+or_none false b e = (refl, e)
+
+-- a release touches for nobody anew
+pub released_none : (q : Line) (c : Conn) → is_touched q c ≡ false → is_touched (record { holders = unheld c q.holders; waiters = q.waiters }) c ≡ false
+released_none q c e =
+    let both = or_none (list_any (of_hold c) q.holders) (list_any (of_waiter c) q.waiters) (sym (touched_any q c) ∙ e) in
+    touched_any (record { holders = unheld c q.holders; waiters = q.waiters }) c
+    ∙ ap (λ b. b || list_any (of_waiter c) q.waiters) (none_left (of_hold c) (λ h. not (conn_eq h.conn c)) q.holders both.0)
+    ∙ both.1
+
+-- what a release gives back, by what its connection touched before and after
+abbrev pub given : Bool → Bool → ℕ
+given before after = if before then (if after then 0 else 1) else 0
+
+given_by : (a b : Bool) → (a ≡ false → b ≡ false) → one a ≡ given a b + one b
+given_by true true h = refl
+given_by true false h = refl
+given_by false true h = cc (h refl)
+given_by false false h = refl
+
+pub freed_is : (q r : Line) (c : Conn) (before after : Bool) (freed : ℕ) → r ≡ released q c → before ≡ is_touched q c → after ≡ is_touched r c
+    → freed ≡ given before after → one (is_touched q c) ≡ freed + one (is_touched (released q c) c)
+freed_is q r c before after freed e f g h =
+    let k : freed ≡ given (is_touched q c) (is_touched (released q c) c) =
+    h ∙ ap (λ a. given a after) f ∙ ap (λ b. given (is_touched q c) b) (g ∙ ap (λ (l : Line). is_touched l c) e) in
+    given_by (is_touched q c) (is_touched (released q c) c) (released_none q c) ∙ ap (λ x. x + one (is_touched (released q c) c)) (sym k)
+
+pub same_line : (r s : Line) → r.holders ≡ s.holders → r.waiters ≡ s.waiters → r ≡ s
+same_line r s e f = ap (λ h. record { holders = h; waiters = r.waiters }) e ∙ ap (λ w. record { holders = s.holders; waiters = w }) f

@@ -1,7 +1,7 @@
 -- A list of places with one name's line put in.
-use Rattle.std.proofs.Common.{◌≡◌, ◌<◌, ◌≤◌, ◌+◌, ℕ, suc, Bool, true, false, not, ◌&&◌, ◌||◌, List, [], ◌∷◌, ◌++◌, length, take, drop, get_or, refl, ap, sym, ◌∙◌, arith, append_assoc, add-one, drop-cons}
+use Rattle.std.proofs.Common.{◌≡◌, ◌<◌, ◌≤◌, ◌+◌, ℕ, suc, Bool, true, false, not, ◌&&◌, ◌||◌, List, [], ◌∷◌, ◌++◌, length, take, drop, get_or, refl, ap, sym, subst, ◌∙◌, arith, append_assoc, add-one, drop-cons}
 use Rattle.std.specs.Prelude.{if◌then◌else◌, slice_set, count_by}
-use Rattle.std.proofs.lemmas.List.{set_split, take_more, take_all, drop_all, append-nil}
+use Rattle.std.proofs.lemmas.List.{set_split, take_more, take_all, drop_all, append-nil, get_or_default}
 use Rattle.iso_locklist.specs.Places.{IsAbsent, IsPlaceOf, line_at, nobody, taken, updated}
 use Rattle.iso_locklist.specs.declared.places.Place.{Place}
 use Rattle.iso_locklist.proofs.Names.{name_same, name_like}
@@ -68,8 +68,8 @@ walk_here ps n i p lt at e w = record {
   within = lt;
   set = λ q. set_split ps i (record { name = p.name; queue = q }) lt
       ∙ sym (w.left q ∙ ap (λ xs. take i ps ++ updated xs n q) (drop_at ps i p lt)
-        ∙ ap (λ x. take i ps ++ updated (x ∷ drop (i + 1) ps) n q) (sym at)
-        ∙ ap (λ xs. take i ps ++ xs) (updated_here p (drop (i + 1) ps) n q e) ∙ (rw add-one refl));
+      ∙ ap (λ x. take i ps ++ updated (x ∷ drop (i + 1) ps) n q) (sym at)
+      ∙ ap (λ xs. take i ps ++ xs) (updated_here p (drop (i + 1) ps) n q e) ∙ (rw add-one refl));
   line = w.line ∙ ap (λ xs. line_at xs n) (drop_at ps i p lt) ∙ ap (λ x. line_at (x ∷ drop (i + 1) ps) n) (sym at) ∙ line_here p (drop (i + 1) ps) n e;
 }
 
@@ -78,3 +78,18 @@ walk_end ps n i le w = record {
   pushed = λ q. sym (w.left q ∙ (rw (take_all, drop_all) refl));
   line = w.line ∙ (rw drop_all refl);
 }
+
+-- what is done to the place at an index is done to the name's line
+pub put_at : (f : Line → Line) (ps qs : List Place) (n : Name) (i : ℕ) → i < length ps → ((p : Place) → p ≡ get_or ps i p → IsPlaceOf ps n i p)
+    → ((p : Place) → p ≡ get_or ps i p → qs ≡ slice_set ps i (record { name = p.name; queue = f p.queue })) → qs ≡ updated ps n (f (line_at ps n))
+put_at f ps qs n i lt is put =
+    let p = get_or ps i (record { name = n; queue = nobody }) in
+    let at : p ≡ get_or ps i p = get_or_default ps i (record { name = n; queue = nobody }) p lt in
+    put p at ∙ (is p at).set (f p.queue) ∙ ap (λ q. updated ps n (f q)) (sym (is p at).line)
+
+pub holds_at : (G : Line → Type 0) (ps : List Place) (n : Name) (i : ℕ) → i < length ps → ((p : Place) → p ≡ get_or ps i p → IsPlaceOf ps n i p)
+    → ((p : Place) → p ≡ get_or ps i p → G p.queue) → G (line_at ps n)
+holds_at G ps n i lt is good =
+    let p = get_or ps i (record { name = n; queue = nobody }) in
+    let at : p ≡ get_or ps i p = get_or_default ps i (record { name = n; queue = nobody }) p lt in
+    subst G (sym (is p at).line) (good p at)

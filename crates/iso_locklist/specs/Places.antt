@@ -5,7 +5,7 @@ use Rattle.iso_locklist.specs.declared.places.Place.{Place}
 use Rattle.iso_locklist.specs.declared.room.LockFault.{LockFault}
 use Rattle.iso_locklist.specs.declared.room.Room.{Room}
 use Rattle.iso_locklist.specs.declared.room.Room.TheVariants.{AtCapacity, AtShare, Free}
-use Rattle.iso_queue.specs.Lines.{Line, is_touched}
+use Rattle.iso_queue.specs.Lines.{Line, is_touched, unheld}
 use Rattle.iso_queue.specs.declared.types.Asked.{Asked}
 use Rattle.iso_types.specs.Ids.{name_eq}
 use Rattle.iso_types.specs.declared.value.Conn.{Conn}
@@ -77,6 +77,10 @@ room_for l c more = room_by (taken l.places c) (all_taken l.places) l.share l.sl
 -- a request needs a slot, or none where the connection holds or awaits the name
 abbrev pub need_of : List Place → Conn → Name → ℕ
 need_of ps c n = if is_touched (line_at ps n) c then 0 else 1
+
+-- the connection's hold goes
+abbrev pub released : Line → Conn → Line
+released q c = record { holders = unheld c q.holders; waiters = q.waiters }
 
 -- a request fails by a limit exactly where its need is at that limit
 abbrev pub IsLimited : Room → Result Asked LockFault → Type 0

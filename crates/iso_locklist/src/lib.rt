@@ -4,6 +4,8 @@
 mod list;
 mod places;
 mod room;
+#[cfg(test)]
+mod tests;
 
 pub use list::LockList;
 pub use places::Place;

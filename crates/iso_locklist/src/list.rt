@@ -1,12 +1,12 @@
 ghost use Rattle.std.specs.Prelude.{◌≡◌, ◌<◌, ◌≤◌, [], IfOk, OnOk, OnErr, false, if◌then◌else◌};
-ghost use Rattle.iso_locklist.specs.Places.{IsLimited, all_taken, line_at, need_of, room_for, taken};
+ghost use Rattle.iso_locklist.specs.Places.{IsLimited, all_taken, line_at, need_of, released, room_for, taken};
 ghost use Rattle.iso_queue.specs.Lines.{asked, hold_of, is_granted, is_guarded_against, is_used};
 ghost use Rattle.iso_queue.specs.declared.types.Asked.{Asked as Outcome};
 ghost use Rattle.iso_types.specs.Ids.{name_eq};
 ghost use Rattle.iso_types.specs.declared.value.Name.{Name as Other};
 ghost use Rattle.iso_types.specs.Head.{lock_share, lock_slots};
 
-use crate::places::{Place, ask, need, queue_of};
+use crate::places::{Place, ask, find_place, need, queue_of, release_at};
 use crate::room::{LockFault, Room, room_in};
 use iso_modes::{Mode, Term};
 use iso_queue::{Asked, Hold};
@@ -75,7 +75,13 @@ impl LockList {
         requires { conn.0 < 32 }
         ensures { result ≡ room_for self.now conn more }
     {
-        room_in(self.counts[conn.0 as usize], self.total, self.share, self.slots, more)
+        room_in(
+            self.counts[conn.0 as usize],
+            self.total,
+            self.share,
+            self.slots,
+            more,
+        )
     }
 
     /// The connection's hold on the name.
@@ -121,7 +127,13 @@ impl LockList {
     /// Requests the mode on the name. `Granted`: the connection holds it, with what it held before. `Queued`: it waits.
     /// Its need is a slot, or none where it holds or awaits the name. `AtShare`, `AtCapacity`: the need is at that limit,
     /// whatever the queue. `Memory`: want of memory. After a fault nothing changed.
-    pub fn request(&mut self, conn: Conn, name: Name, mode: Mode, term: Term) -> Result<Asked, LockFault>
+    pub fn request(
+        &mut self,
+        conn: Conn,
+        name: Name,
+        mode: Mode,
+        term: Term,
+    ) -> Result<Asked, LockFault>
         requires { conn.0 < 32 }
         ensures limit { IsLimited (room_for self.old conn (need_of self.old.places conn name)) result }
         ensures answer { IfOk result (λ a. a ≡ (if is_granted (line_at self.old.places name) conn mode then Outcome.Granted else Outcome.Queued)) }
@@ -145,5 +157,19 @@ impl LockList {
         self.counts[at] += need;
         self.total += need;
         Ok(asked)
+    }
+
+    /// The connection's hold on the name goes. It takes no memory.
+    pub fn release(&mut self, conn: Conn, name: Name)
+        requires { conn.0 < 32 }
+        ensures line { line_at self.new.places name ≡ released (line_at self.old.places name) conn }
+        ensures others { (n : Other) → name_eq name n ≡ false → line_at self.new.places n ≡ line_at self.old.places n }
+        ensures limits { (self.new.share ≡ self.old.share) × (self.new.slots ≡ self.old.slots) }
+    {
+        if let Some(at) = find_place(&self.places, &name) {
+            let freed = release_at(&mut self.places, at, conn);
+            self.counts[conn.0 as usize] -= freed;
+            self.total -= freed;
+        }
     }
 }

@@ -1,7 +1,7 @@
-ghost use Rattle.std.specs.Prelude.{◌≡◌, ◌<◌, length, slice_index_or, IfSome, IfNone, IfOk, OnOk, OnErr, if◌then◌else◌};
-ghost use Rattle.iso_locklist.specs.Places.{IsAbsent, IsPlaceOf, line_at, need_of, nobody, updated};
+ghost use Rattle.std.specs.Prelude.{◌≡◌, ◌+◌, slice_set, ◌<◌, length, slice_index_or, IfSome, IfNone, IfOk, OnOk, OnErr, if◌then◌else◌};
+ghost use Rattle.iso_locklist.specs.Places.{IsAbsent, IsPlaceOf, line_at, need_of, nobody, one, released, updated};
 ghost use Rattle.iso_locklist.specs.declared.places.Place.{Place as Entry};
-ghost use Rattle.iso_queue.specs.Lines.{asked, is_granted};
+ghost use Rattle.iso_queue.specs.Lines.{asked, is_granted, is_touched};
 ghost use Rattle.iso_queue.specs.declared.types.Asked.{Asked as Outcome};
 ghost use Rattle.iso_types.specs.Ids.{name_eq};
 
@@ -54,13 +54,7 @@ pub fn need(places: &[Place], conn: Conn, name: &Name) -> u32
     ensures { result ≡ need_of places.now conn name.now }
 {
     match queue_of(places, name) {
-        Some(queue) => {
-            if queue.touches(conn) {
-                0
-            } else {
-                1
-            }
-        }
+        Some(queue) => { if queue.touches(conn) { 0 } else { 1 } }
         None => 1,
     }
 }
@@ -101,4 +95,31 @@ pub fn ask(
         Some(at) => places[at].queue.ask(conn, mode, term),
         None => ask_new(places, alloc, conn, name, mode, term),
     }
+}
+
+/// One slot where the connection touched the name before and not after.
+fn freed(before: bool, after: bool) -> u32
+    ensures { result ≡ (if before then (if after then 0 else 1) else 0) }
+{
+    if before && !after { 1 } else { 0 }
+}
+
+/// The connection's hold goes; the result is the slots that it gives back.
+fn release_in(queue: &mut Queue, conn: Conn) -> u32
+    ensures line { queue.new ≡ released queue.old conn }
+    ensures freed { one (is_touched queue.old conn) ≡ result + one (is_touched (released queue.old conn) conn) }
+{
+    let before = queue.touches(conn);
+    queue.release(conn);
+    let after = queue.touches(conn);
+    freed(before, after)
+}
+
+/// The same in the queue of a place.
+pub fn release_at(places: &mut Vec<Place>, at: usize, conn: Conn) -> u32
+    requires { at < length places.old.items }
+    ensures places { (p : Entry) → p ≡ slice_index_or places.old.items at p → places.new.items ≡ slice_set places.old.items at (record { name = p.name; queue = released p.queue conn }) }
+    ensures freed { (p : Entry) → p ≡ slice_index_or places.old.items at p → one (is_touched p.queue conn) ≡ result + one (is_touched (released p.queue conn) conn) }
+{
+    release_in(&mut places[at].queue, conn)
 }

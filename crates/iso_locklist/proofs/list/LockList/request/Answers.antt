@@ -12,15 +12,15 @@ pub invariant_of-self-2 : goal.invariant_of-self-2
 invariant_of-self-2 c =
     let line = line_at c.self.inside.places.items c.args.name in
     let need : c.need-need.result ≡ need_of c.self.inside.places.items c.args.conn c.args.name =
-      c.need-need.ensures ∙ ap (λ (ps : List Place). need_of ps c.args.conn c.args.name) c.deref.ensures.value in
+    c.need-need.ensures ∙ ap (λ (ps : List Place). need_of ps c.args.conn c.args.name) c.deref.ensures.value in
     rw c.in-Ok.ensures.places
     (counted c.self.inside.places.items c.args.name (asked line c.args.conn c.args.mode c.args.term) c.self.inside.counts c.self.inside.total c.args.conn.0
-      (get_or c.self.inside.counts c.args.conn.0 0 + c.need-need.result) (c.self.inside.total + c.need-need.result) c.self.invariant
-      (λ d ne. asked_other line c.args.conn c.args.mode c.args.term d ne) c.requires
-      (needed (is_touched line c.args.conn) (is_touched (asked line c.args.conn c.args.mode c.args.term) c.args.conn) c.need-need.result
-        (get_or c.self.inside.counts c.args.conn.0 0) need (asked_own line c.args.conn c.args.mode c.args.term))
-      (needed (is_touched line c.args.conn) (is_touched (asked line c.args.conn c.args.mode c.args.term) c.args.conn) c.need-need.result
-        c.self.inside.total need (asked_own line c.args.conn c.args.mode c.args.term)))
+    (get_or c.self.inside.counts c.args.conn.0 0 + c.need-need.result) (c.self.inside.total + c.need-need.result) c.self.invariant
+    (λ d ne. asked_other line c.args.conn c.args.mode c.args.term d ne) c.requires
+    (needed (is_touched line c.args.conn) (is_touched (asked line c.args.conn c.args.mode c.args.term) c.args.conn) c.need-need.result
+    (get_or c.self.inside.counts c.args.conn.0 0) need (asked_own line c.args.conn c.args.mode c.args.term))
+    (needed (is_touched line c.args.conn) (is_touched (asked line c.args.conn c.args.mode c.args.term) c.args.conn) c.need-need.result
+    c.self.inside.total need (asked_own line c.args.conn c.args.mode c.args.term)))
 
 pub returns-clause-line : goal.returns-clause-line
 returns-clause-line c =
