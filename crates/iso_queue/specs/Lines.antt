@@ -7,6 +7,7 @@ use Rattle.std.specs.Prelude.{ℕ, zero, suc, ◌+◌, ◌^◌, Bool, true, fals
 use Rattle.iso_modes.specs.Modes.{compatible, joined, mode_eq}
 use Rattle.iso_modes.specs.Terms.{is_kept}
 use Rattle.iso_modes.specs.declared.Mode.{Mode}
+use Rattle.iso_modes.specs.declared.Mode.TheVariants.{Nw, S}
 use Rattle.iso_modes.specs.declared.Term.{Term}
 use Rattle.iso_modes.specs.declared.Term.TheVariants.{Kept}
 use Rattle.iso_queue.specs.declared.types.Hold.{Hold}
@@ -123,3 +124,15 @@ bits_of test (suc k) = bits_of test k + (if test (record { 0 = k }) then 2 ^ k e
 -- the edges of the connection's wait: bit d for connection d
 abbrev pub edges_of : Line → Conn → ℕ
 edges_of q c = option_map_or (λ x. bits_of (has_edge_to q.holders q.waiters x) 32) (waiter_of q.waiters c) 0
+
+-- another connection holds S or NW
+abbrev pub is_guarded_against : List Hold → Conn → Bool
+is_guarded_against hs c = list_any (λ h. not (conn_eq h.conn c) && (mode_eq h.mode S || mode_eq h.mode Nw)) hs
+
+-- the connection holds or awaits the name
+abbrev pub is_touched : Line → Conn → Bool
+is_touched q c = is_holder q.holders c || is_waiter q.waiters c
+
+-- somebody holds or awaits the name
+abbrev pub is_used : Line → Bool
+is_used q = list_any (λ _. true) q.holders || list_any (λ _. true) q.waiters

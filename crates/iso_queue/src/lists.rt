@@ -2,11 +2,12 @@ ghost use Rattle.std.specs.Prelude.{◌≡◌, ◌&&◌, ◌+◌, ◌≤◌, ◌
 ghost use Rattle.std.specs.List.{insert};
 ghost use Rattle.std.specs.List.{list_any};
 ghost use Rattle.iso_types.specs.Ids.{conn_eq};
+ghost use Rattle.iso_modes.specs.Modes.{mode_eq};
 ghost use Rattle.iso_modes.specs.Terms as terms;
-ghost use Rattle.iso_queue.specs.Lines.{hold_of, is_holder, waiter_of, is_waiter, granted, raised, opposes, unheld, unqueued, before, queued, has_edge, has_edge_to, would_wait, bits_of, target_of, has_mode, is_granted};
+ghost use Rattle.iso_queue.specs.Lines.{hold_of, is_holder, waiter_of, is_waiter, granted, raised, opposes, unheld, unqueued, before, queued, has_edge, has_edge_to, would_wait, bits_of, target_of, has_mode, is_granted, is_guarded_against};
 
 use crate::types::{Hold, Waiter};
-use iso_modes::{Mode, Term, compatible, is_same, joined};
+use iso_modes::{Mode, Term, compatible, joined};
 use iso_types::Conn;
 
 /// The connection's hold.
@@ -213,12 +214,19 @@ pub fn target(holders: &[Hold], conn: Conn, mode: Mode) -> Mode
     }
 }
 
+#[tactic(auto, unfolding(iso_modes::specs::Modes::mode_eq, iso_modes::specs::Modes::mode_number))]
+fn same_mode(a: Mode, b: Mode) -> bool
+    ensures { result ≡ mode_eq a b }
+{
+    a == b
+}
+
 /// Whether the connection holds the mode already.
 fn holds_mode(holders: &[Hold], conn: Conn, mode: Mode) -> bool
     ensures { result ≡ has_mode holders.now conn mode }
 {
     match find_hold(holders, conn) {
-        Some(hold) => is_same(joined(hold.mode, mode), hold.mode),
+        Some(hold) => same_mode(joined(hold.mode, mode), hold.mode),
         None => false,
     }
 }
@@ -233,4 +241,31 @@ pub fn grants(holders: &[Hold], waiters: &[Waiter], conn: Conn, mode: Mode) -> b
         term: Term::Kept,
     };
     holds_mode(holders, conn, mode) || !would_be_stuck(holders, waiters, wait)
+}
+
+/// Whether another connection holds S or NW.
+pub fn is_guarded(holders: &[Hold], conn: Conn) -> bool
+    ensures { result ≡ is_guarded_against holders.now conn }
+{
+    holders.iter().any(|hold| hold.conn != conn && (same_mode(hold.mode, Mode::S) || same_mode(hold.mode, Mode::Nw)))
+}
+
+/// Whether somebody holds the name.
+pub fn is_held(holders: &[Hold]) -> bool
+    ensures { result ≡ list_any (λ _. true) holders.now }
+{
+    match holders.first() {
+        Some(_) => true,
+        None => false,
+    }
+}
+
+/// Whether somebody awaits the name.
+pub fn is_awaited(waiters: &[Waiter]) -> bool
+    ensures { result ≡ list_any (λ _. true) waiters.now }
+{
+    match waiters.first() {
+        Some(_) => true,
+        None => false,
+    }
 }

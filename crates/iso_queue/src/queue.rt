@@ -1,5 +1,5 @@
 ghost use Rattle.std.specs.Prelude.{◌≡◌, [], IfOk, OnErr, OnOk, if◌then◌else◌};
-ghost use Rattle.iso_queue.specs.Lines.{Line, asked, claimed, edges_of, hold_of, is_granted, is_grantable, unheld, unqueued};
+ghost use Rattle.iso_queue.specs.Lines.{Line, asked, claimed, edges_of, hold_of, is_granted, is_grantable, is_guarded_against, is_touched, is_used, unheld, unqueued, waiter_of};
 ghost use Rattle.iso_queue.specs.declared.types.Asked.{Asked as Outcome};
 ghost use Rattle.iso_queue.specs.declared.types.Claimed.{Claimed as Answer};
 
@@ -123,5 +123,33 @@ impl Queue {
             Some(wait) => Edges(lists::edge_bits(&self.holders, &self.waiters, wait)),
             None => Edges(0),
         }
+    }
+
+    /// The connection's wait.
+    pub fn wait(&self, conn: Conn) -> Option<Waiter>
+        ensures { result ≡ waiter_of self.now.waiters conn }
+    {
+        lists::find_waiter(&self.waiters, conn)
+    }
+
+    /// Whether another connection holds S or NW.
+    pub fn is_guarded(&self, conn: Conn) -> bool
+        ensures { result ≡ is_guarded_against self.now.holders conn }
+    {
+        lists::is_guarded(&self.holders, conn)
+    }
+
+    /// Whether the connection holds or awaits the name.
+    pub fn touches(&self, conn: Conn) -> bool
+        ensures { result ≡ is_touched self.now conn }
+    {
+        lists::holds(&self.holders, conn) || lists::find_waiter(&self.waiters, conn).is_some()
+    }
+
+    /// Whether somebody holds or awaits the name. Its cost is constant.
+    pub fn in_use(&self) -> bool
+        ensures { result ≡ is_used self.now }
+    {
+        lists::is_held(&self.holders) || lists::is_awaited(&self.waiters)
     }
 }

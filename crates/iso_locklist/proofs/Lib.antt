@@ -1,0 +1,4 @@
+pub mod Names
+pub mod Updates
+pub mod Touched
+pub mod Counts

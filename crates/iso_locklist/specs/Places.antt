@@ -1,0 +1,90 @@
+-- The lock list: names, each with its holders and waiters. The order of the names is of no matter.
+-- Db2 LUW, 'locklist' and 'maxlocks' configuration parameters; the unit of a slot is this project's own.
+use Rattle.std.specs.Prelude.{◌≡◌, ◌<◌, ◌++◌, length, slice_set, slice_index, ℕ, zero, suc, ◌+◌, Bool, true, false, not, ◌&&◌, ◌||◌, List, [], ◌∷◌, if◌then◌else◌, nat_lt, count_by, Result, Ok, Err}
+use Rattle.iso_locklist.specs.declared.places.Place.{Place}
+use Rattle.iso_locklist.specs.declared.room.LockFault.{LockFault}
+use Rattle.iso_locklist.specs.declared.room.Room.{Room}
+use Rattle.iso_locklist.specs.declared.room.Room.TheVariants.{AtCapacity, AtShare, Free}
+use Rattle.iso_queue.specs.Lines.{Line, is_touched, unheld}
+use Rattle.iso_queue.specs.declared.types.Asked.{Asked}
+use Rattle.iso_types.specs.Ids.{name_eq}
+use Rattle.iso_types.specs.declared.value.Conn.{Conn}
+use Rattle.iso_types.specs.declared.value.Name.{Name}
+
+-- the lock list: its places, the share of one connection and the slots of all
+pub record Ledger : Type 0 where
+  pub places : List Place
+  pub share : ℕ
+  pub slots : ℕ
+
+-- nobody holds or awaits the name
+abbrev pub nobody : Line
+nobody = record { holders = []; waiters = [] }
+
+-- the holders and waiters of the name
+abbrev pub line_at : List Place → Name → Line
+line_at [] n = nobody
+line_at (p ∷ ps) n = if name_eq p.name n then p.queue else line_at ps n
+
+-- the first place of the name gets the line; where there is none, one is added
+abbrev pub updated : List Place → Name → Line → List Place
+updated [] n q = record { name = n; queue = q } ∷ []
+updated (p ∷ ps) n q = if name_eq p.name n then record { name = p.name; queue = q } ∷ ps else p ∷ updated ps n q
+
+-- the place at an index is the name's: a line put there is the name's new line
+pub record IsPlaceOf (ps : List Place) (n : Name) (i : ℕ) (p : Place) : Type 0 where
+  pub within : i < length ps
+  pub set : (q : Line) → slice_set ps i (record { name = p.name; queue = q }) ≡ updated ps n q
+  pub line : line_at ps n ≡ p.queue
+
+-- no place is the name's: a place that is added is its first
+pub record IsAbsent (ps : List Place) (n : Name) : Type 0 where
+  pub pushed : (q : Line) → ps ++ record { name = n; queue = q } ∷ [] ≡ updated ps n q
+  pub line : line_at ps n ≡ nobody
+
+-- the number of names that the connection holds or awaits
+abbrev pub taken : List Place → Conn → ℕ
+taken ps c = count_by (λ p. is_touched p.queue c) ps
+
+-- the same for the connections below k together
+abbrev pub taken_below : List Place → ℕ → ℕ
+taken_below ps zero = 0
+taken_below ps (suc k) = taken_below ps k + taken ps (record { 0 = k })
+
+-- the same for all 32 connections together
+unfoldable pub all_taken : List Place → ℕ
+all_taken ps = taken_below ps 32
+
+-- 1 for what is so, else 0
+abbrev pub one : Bool → ℕ
+one b = if b then 1 else 0
+
+-- the kept counts are those of the places
+pub record IsCounted (ps : List Place) (counts : List ℕ) (total : ℕ) : Type 0 where
+  pub size : length counts ≡ 32
+  pub each : (c : ℕ) → c < 32 → slice_index counts c ≡ taken ps (record { 0 = c })
+  pub all : total ≡ all_taken ps
+
+-- whether a need of that many more is at its limit: the share first, then the slots
+abbrev pub room_by : ℕ → ℕ → ℕ → ℕ → ℕ → Room
+room_by count total share slots more =
+    if nat_lt share (count + more) then AtShare else if nat_lt slots (total + more) then AtCapacity else Free
+
+-- the same for a connection of the lock list
+abbrev pub room_for : Ledger → Conn → ℕ → Room
+room_for l c more = room_by (taken l.places c) (all_taken l.places) l.share l.slots more
+
+-- a request needs a slot, or none where the connection holds or awaits the name
+abbrev pub need_of : List Place → Conn → Name → ℕ
+need_of ps c n = if is_touched (line_at ps n) c then 0 else 1
+
+-- the connection's hold goes
+abbrev pub released : Line → Conn → Line
+released q c = record { holders = unheld c q.holders; waiters = q.waiters }
+
+-- a request fails by a limit exactly where its need is at that limit
+abbrev pub IsLimited : Room → Result Asked LockFault → Type 0
+IsLimited AtShare result = result ≡ Err LockFault.AtShare
+IsLimited AtCapacity result = result ≡ Err LockFault.AtCapacity
+IsLimited Free (Err f) = f ≡ LockFault.Memory
+IsLimited Free (Ok a) = Unit {0}

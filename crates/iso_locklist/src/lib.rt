@@ -1,0 +1,12 @@
+//! The lock list: the holders and the queue of each lock name, and how many names each connection has.
+#![tactic(auto)]
+
+mod list;
+mod places;
+mod room;
+#[cfg(test)]
+mod tests;
+
+pub use list::LockList;
+pub use places::Place;
+pub use room::{LockFault, Room};

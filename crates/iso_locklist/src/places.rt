@@ -1,0 +1,125 @@
+ghost use Rattle.std.specs.Prelude.{◌≡◌, ◌+◌, slice_set, ◌<◌, length, slice_index_or, IfSome, IfNone, IfOk, OnOk, OnErr, if◌then◌else◌};
+ghost use Rattle.iso_locklist.specs.Places.{IsAbsent, IsPlaceOf, line_at, need_of, nobody, one, released, updated};
+ghost use Rattle.iso_locklist.specs.declared.places.Place.{Place as Entry};
+ghost use Rattle.iso_queue.specs.Lines.{asked, is_granted, is_touched};
+ghost use Rattle.iso_queue.specs.declared.types.Asked.{Asked as Outcome};
+ghost use Rattle.iso_types.specs.Ids.{name_eq};
+
+use iso_modes::{Mode, Term};
+use iso_queue::{Asked, Queue};
+use iso_types::{Conn, Memory, Name};
+use std::alloc::Global;
+
+/// A name with its holders and waiters.
+#[derive(Drop)]
+pub struct Place {
+    pub name: Name,
+    pub queue: Queue,
+}
+
+#[tactic(auto, unfolding(iso_types::specs::Ids::name_eq, iso_types::specs::Value::value_eq))]
+fn same_name(a: &Name, b: &Name) -> bool
+    ensures { result ≡ name_eq a.now b.now }
+{
+    *a == *b
+}
+
+/// The name's place in the list.
+pub fn find_place(places: &[Place], name: &Name) -> Option<usize>
+    ensures some { IfSome result (λ i. (p : Entry) → p ≡ slice_index_or places.now i p → IsPlaceOf places.now name.now i p) }
+    ensures within { IfSome result (λ i. i < length places.now) }
+    ensures none { IfNone result (IsAbsent places.now name.now) }
+{
+    for at in 0..places.len() {
+        if same_name(&places[at].name, name) {
+            return Some(at);
+        }
+    }
+    None
+}
+
+/// The name's holders and waiters, or None where nobody holds or awaits it.
+pub fn queue_of<'a>(places: &'a [Place], name: &Name) -> Option<&'a Queue>
+    ensures some { IfSome result (λ q. q.now ≡ line_at places.now name.now) }
+    ensures none { IfNone result (line_at places.now name.now ≡ nobody) }
+{
+    match find_place(places, name) {
+        Some(at) => Some(&places[at].queue),
+        None => None,
+    }
+}
+
+/// The slots that a request needs.
+pub fn need(places: &[Place], conn: Conn, name: &Name) -> u32
+    ensures { result ≡ need_of places.now conn name.now }
+{
+    match queue_of(places, name) {
+        Some(queue) => { if queue.touches(conn) { 0 } else { 1 } }
+        None => 1,
+    }
+}
+
+fn ask_new(
+    places: &mut Vec<Place>,
+    alloc: Global,
+    conn: Conn,
+    name: &Name,
+    mode: Mode,
+    term: Term,
+) -> Result<Asked, Memory>
+    requires { IsAbsent places.old.items name.now }
+    ensures answer { IfOk result (λ a. a ≡ (if is_granted (line_at places.old.items name.now) conn mode then Outcome.Granted else Outcome.Queued)) }
+    ensures places { OnOk result (places.new.items ≡ updated places.old.items name.now (asked (line_at places.old.items name.now) conn mode term)) }
+    ensures err { OnErr result (places.new.items ≡ places.old.items) }
+{
+    let mut queue = Queue::new(alloc);
+    let asked = queue.ask(conn, mode, term)?;
+    places.push(Place { name: *name, queue })?;
+    Ok(asked)
+}
+
+/// Asks for the mode in the name's queue.
+pub fn ask(
+    places: &mut Vec<Place>,
+    alloc: Global,
+    conn: Conn,
+    name: &Name,
+    mode: Mode,
+    term: Term,
+) -> Result<Asked, Memory>
+    ensures answer { IfOk result (λ a. a ≡ (if is_granted (line_at places.old.items name.now) conn mode then Outcome.Granted else Outcome.Queued)) }
+    ensures places { OnOk result (places.new.items ≡ updated places.old.items name.now (asked (line_at places.old.items name.now) conn mode term)) }
+    ensures err { OnErr result (places.new.items ≡ places.old.items) }
+{
+    match find_place(places, name) {
+        Some(at) => places[at].queue.ask(conn, mode, term),
+        None => ask_new(places, alloc, conn, name, mode, term),
+    }
+}
+
+/// One slot where the connection touched the name before and not after.
+fn freed(before: bool, after: bool) -> u32
+    ensures { result ≡ (if before then (if after then 0 else 1) else 0) }
+{
+    if before && !after { 1 } else { 0 }
+}
+
+/// The connection's hold goes; the result is the slots that it gives back.
+fn release_in(queue: &mut Queue, conn: Conn) -> u32
+    ensures line { queue.new ≡ released queue.old conn }
+    ensures freed { one (is_touched queue.old conn) ≡ result + one (is_touched (released queue.old conn) conn) }
+{
+    let before = queue.touches(conn);
+    queue.release(conn);
+    let after = queue.touches(conn);
+    freed(before, after)
+}
+
+/// The same in the queue of a place.
+pub fn release_at(places: &mut Vec<Place>, at: usize, conn: Conn) -> u32
+    requires { at < length places.old.items }
+    ensures places { (p : Entry) → p ≡ slice_index_or places.old.items at p → places.new.items ≡ slice_set places.old.items at (record { name = p.name; queue = released p.queue conn }) }
+    ensures freed { (p : Entry) → p ≡ slice_index_or places.old.items at p → one (is_touched p.queue conn) ≡ result + one (is_touched (released p.queue conn) conn) }
+{
+    release_in(&mut places[at].queue, conn)
+}
