@@ -9,3 +9,6 @@ mod put;
 mod said;
 
 pub use entries::transcript;
+
+#[cfg(test)]
+mod tests;
