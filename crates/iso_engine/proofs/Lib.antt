@@ -6,3 +6,4 @@ pub mod Carry
 pub mod Looks
 pub mod Start
 pub mod Words
+pub mod Outcomes

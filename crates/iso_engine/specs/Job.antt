@@ -73,3 +73,14 @@ abbrev pub IsExact : List ℕ → ℕ → Type 0
 IsExact bytes status =
     ((n : ℕ) → bad bytes n → (status ≡ 2) ⊎ ((status ≡ 3) ⊎ (status ≡ 5)))
     × (length bytes ≡ 1048577 → (status ≡ 2) ⊎ ((status ≡ 3) ⊎ (status ≡ 5)))
+
+-- all that is said of the bytes that were read
+pub record IsAnswered (bytes : List ℕ) (status : ℕ) (history : List Entry) (old new : Option (List ℕ)) : Type 0 where
+  pub outcome : IsOutcome bytes status history old new
+  pub headline : IsHeadline bytes status history old new
+  pub exact : IsExact bytes status
+
+-- a bad line is told, or memory was wanting
+abbrev pub IsRefusal : ℕ → ℕ → List Entry → Option (List ℕ) → Option (List ℕ) → Type 0
+IsRefusal n status history old new =
+    ((status ≡ 2) × (history ≡ []) × AppendsPart old new (refusal_at n)) ⊎ ((status ≡ 5) × (history ≡ []) × Appends old new [])

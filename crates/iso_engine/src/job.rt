@@ -3,11 +3,10 @@ ghost use Rattle.std.specs.Io.KnownBytes.{Appends, Consumes};
 ghost use Rattle.iso_conduct.specs.Legal.{IsFinished};
 ghost use Rattle.iso_history.specs.Makers.{by_dispatcher};
 ghost use Rattle.iso_history.specs.declared.entry.Act.TheVariants.{Finish as Ends};
-ghost use Rattle.iso_engine.specs.Job.{IsExact, IsHeadline, IsOutcome, IsRow, IsTold, refusal_at, texts, usage};
+ghost use Rattle.iso_engine.specs.Job.{IsAnswered, IsRefusal, IsRow, IsTold, refusal_at, texts, usage};
 ghost use Rattle.iso_io.specs.Moves.{AppendsPart, HasRisen};
 ghost use Rattle.iso_script.specs.Built.{IsBuilt};
 ghost use Rattle.iso_script.specs.Numbered.{rises_above};
-ghost use Rattle.iso_script.specs.Reading.{reads};
 
 use crate::run::run_serial;
 use iso_history::{Act, Entry, History, Who};
@@ -98,5 +97,69 @@ fn run_script<K: Sink>(alloc: Global, script: &Script, sink: &mut K) -> Report
     match write_whole(sink, text.as_slice()) {
         Ok(()) => Report { status: 0, history },
         Err(_) => Report { status: 4, history },
+    }
+}
+
+/// Refuses a script at its first bad line.
+fn refuse<K: Sink>(alloc: Global, line: u32, sink: &mut K) -> Report
+    ensures { IsRefusal line result.status result.history.items (K.held sink.old) (K.held sink.new) }
+{
+    match refusal(alloc, line) {
+        Ok(text) => {
+            let _ = write_whole(sink, text.as_bytes());
+            without_run(2, alloc)
+        }
+        Err(_) => without_run(5, alloc),
+    }
+}
+
+/// Reads a script from its bytes, and runs it.
+fn run_bytes<K: Sink>(alloc: Global, bytes: &[u8], sink: &mut K) -> Report
+    requires { length bytes.now ≤ 1048576 }
+    ensures answered { IsAnswered bytes.now result.status result.history.items (K.held sink.old) (K.held sink.new) }
+    ensures read { result.status ≡ 3 → ⊥ }
+    ensures fault { result.status ≡ 4 → HasRisen (K.faults sink.old) (K.faults sink.new) }
+{
+    match Script::read(alloc, bytes) {
+        Ok(script) => run_script(alloc, &script, sink),
+        Err(ScriptFault::Memory) => without_run(5, alloc),
+        Err(ScriptFault::BadLine(line, _)) => refuse(alloc, line, sink),
+    }
+}
+
+/// Runs the job that the words name: reads a script from the source, runs it on this thread, and writes its
+/// transcript to the sink.
+///
+/// Status 1: the words are not the one word `serial`. 3: the source failed. 2: the script is refused, at its first
+/// bad line or for its length. 4: the sink failed. 5: memory was wanting. 0: all is written. Where several hold, the
+/// first of these is answered. It takes one pass over the bytes, time for each entry of the history, and one pass over
+/// the history; `rt` and the gate are for jobs on threads.
+pub fn db2iso<R: Threads + Wait + Sync, S: Source, K: Sink, G: Gate + Sync>(
+    rt: &R,
+    alloc: Global,
+    words: &[String],
+    source: &mut S,
+    sink: &mut K,
+    gate: &G,
+) -> Report
+    ensures usage { (result.status ≡ 1) ↔ ¬ IsRow (texts words.now) }
+    ensures usage_text { result.status ≡ 1 → (result.history.items ≡ []) × AppendsPart (K.held sink.old) (K.held sink.new) usage }
+    ensures source_fault { result.status ≡ 3 → HasRisen (S.faults source.old) (S.faults source.new) }
+    ensures sink_fault { result.status ≡ 4 → HasRisen (K.faults sink.old) (K.faults sink.new) }
+    ensures outcome { IsRow (texts words.now) → (bytes : List ℕ) × Consumes (S.left source.old) (S.left source.new) bytes
+        × IsAnswered bytes result.status result.history.items (K.held sink.old) (K.held sink.new) }
+{
+    if !is_row(words) {
+        let _ = write_whole(sink, b"USAGE\n");
+        return without_run(1, alloc);
+    }
+    match read_script(alloc, source) {
+        Ok(bytes) => run_bytes(alloc, bytes.as_slice(), sink),
+        Err(ReadFault::ReadFault) => without_run(3, alloc),
+        Err(ReadFault::TooLong) => {
+            let _ = write_whole(sink, b"LINE 0 TOO LONG\n");
+            without_run(2, alloc)
+        }
+        Err(ReadFault::Memory) => without_run(5, alloc),
     }
 }

@@ -8,5 +8,5 @@ mod reply;
 mod run;
 mod serial;
 
-pub use job::Report;
+pub use job::{Report, db2iso};
 pub use run::run_serial;

@@ -7,6 +7,7 @@ use Rattle.iso_script.specs.declared.reader.Reader.{Reader}
 use Rattle.iso_script.specs.Rules.{advance}
 use Rattle.iso_script.specs.Reading.{fits, wrong, is_ended, start}
 use Rattle.iso_script.proofs.ReadLaws.{line-exact, only_unbuilt}
+use Rattle.iso_script.proofs.Exact.{not_both, one_script}
 use Rattle.iso_script.proofs.BuiltLaws.{reads-built}
 use Rattle.iso_script.proofs.NumberLaws.{reads-rising}
 use Rattle.iso_script.proofs.read.exactly_one.Goals as goal
@@ -18,11 +19,10 @@ returns-clause-one_way c = λ bytes. elim (laws.one_way fits wrong advance is_sk
 ]
 
 pub returns-clause-not_both : goal.returns-clause-not_both
-returns-clause-not_both c = λ bytes s n r b. laws.not_both fits wrong advance is_skipped is_ended cause.Unbuilt line-exact (lines bytes) start 1 r.0 n cause.Unbuilt r.1 b
+returns-clause-not_both c = not_both
 
 pub returns-clause-one_script : goal.returns-clause-one_script
-returns-clause-one_script c = λ bytes s t p q.
-    sym p.2 ∙ ap (λ (r : Reader). r.script) (laws.one_meaning fits wrong advance is_skipped is_ended cause.Unbuilt line-exact (lines bytes) start 1 p.0 q.0 p.1 q.1) ∙ q.2
+returns-clause-one_script c = one_script
 
 pub returns-clause-one_bad : goal.returns-clause-one_bad
 returns-clause-one_bad c = λ bytes m n p q. (laws.one_bad fits wrong advance is_skipped is_ended cause.Unbuilt line-exact (lines bytes) start 1 m n cause.Unbuilt cause.Unbuilt p q).0
