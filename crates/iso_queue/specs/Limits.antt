@@ -1,4 +1,5 @@
--- Lock limits.
+-- Lock limits. Db2 LUW, 'locklist' and 'maxlocks' configuration parameters, 'Lock escalation'; that a slot is a name, and the
+-- choice among tables, are this project's own.
 use Rattle.std.specs.List.{list_all}
 use Rattle.std.specs.Option.{option_map_or}
 use Rattle.std.specs.Prelude.{ℕ, ◌+◌, Bool, not, ◌&&◌, ◌||◌, List, if◌then◌else◌, nat_lt, nat_le, sum_by, count_by, find, Option}

@@ -1,4 +1,6 @@
 -- Lists of holds, and how a request is placed on them.
+-- Modes, conversion and covering: Db2 LUW, 'Lock attributes', 'Lock type compatibility', 'Lock conversion'. The terms, how each
+-- ends, and the hold that is spared are this project's own.
 use Rattle.std.specs.List.{list_any}
 use Rattle.std.specs.Option.{option_map, option_map_or}
 use Rattle.std.specs.Prelude.{Bool, false, not, ◌&&◌, ◌||◌, List, [], ◌∷◌, map, is_some, if◌then◌else◌, filter, find, Option}

@@ -1,4 +1,4 @@
--- Queues and edges.
+-- Queues and edges: this project's own. Db2 LUW documents that a request waits for incompatible holders ('Lock waits and timeouts').
 use Rattle.std.specs.List.{list_any}
 use Rattle.std.specs.Option.{option_map_or}
 use Rattle.std.specs.Prelude.{Bool, true, false, not, ◌&&◌, ◌||◌, List, [], ◌∷◌, ◌++◌, map, is_some, if◌then◌else◌, filter, take_while, find, Option}

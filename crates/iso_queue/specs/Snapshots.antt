@@ -1,4 +1,4 @@
--- What a Snapshot lists, in its order.
+-- What a Snapshot lists, in its order. The states are those of Db2 LUW, 'MON_GET_LOCKS'; the order is this project's own.
 use Rattle.std.specs.Option.{option_map_or}
 use Rattle.std.specs.Prelude.{ℕ, Bool, true, false, ◌&&◌, ◌||◌, List, [], ◌∷◌, ◌++◌, map, if◌then◌else◌, nat_lt, nat_le, ◌==◌, flat_map, filter_map}
 use Rattle.iso_modes.specs.declared.LockState.{LockState}

@@ -247,7 +247,8 @@ pub fn grants(holders: &[Hold], waiters: &[Waiter], conn: Conn, mode: Mode) -> b
 pub fn is_guarded(holders: &[Hold], conn: Conn) -> bool
     ensures { result ≡ is_guarded_against holders.now conn }
 {
-    holders.iter().any(|hold| hold.conn != conn && (same_mode(hold.mode, Mode::S) || same_mode(hold.mode, Mode::Nw)))
+    holders.iter().any(|hold| hold.conn != conn
+        && (same_mode(hold.mode, Mode::S) || same_mode(hold.mode, Mode::Nw)))
 }
 
 /// Whether somebody holds the name.
