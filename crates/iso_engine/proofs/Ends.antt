@@ -45,10 +45,10 @@ pub replied-on : (head : Head) (lines : List Line) (es : List Entry) (s : Statem
 replied-on head lines es s r kept left code changed rows one goes is i =
     idle-snoc head lines es (by_agent first_conn (Reply code changed rows)) left
     (way-snoc head lines es left (by_agent first_conn (Reply code changed rows)) i.way
-      (rw i.way.open_ refl, (rw one refl, i.runs.running))
-      (λ h. rw (i.runs.running, i.runs.opened_, is) refl)
-      tt
-      i.way.open_)
+    (rw i.way.open_ refl, (rw one refl, i.runs.running))
+    (λ h. rw (i.runs.running, i.runs.opened_, is) refl)
+    tt
+    i.way.open_)
     (record {
       idle = shuts _ _ _ _ _ i.runs.running;
       none = refl;
@@ -80,10 +80,10 @@ pub committed-on : (head : Head) (lines : List Line) (es : List Entry) (r : ℕ)
 committed-on head lines es r kept left one i =
     idle-snoc head lines es (by_agent first_conn Commit) left
     (way-snoc head lines es left (by_agent first_conn Commit) i.way
-      (rw i.way.open_ refl, (rw one refl, i.runs.running))
-      (λ h. rw (i.runs.running, i.runs.opened_) refl)
-      tt
-      i.way.open_)
+    (rw i.way.open_ refl, (rw one refl, i.runs.running))
+    (λ h. rw (i.runs.running, i.runs.opened_) refl)
+    tt
+    i.way.open_)
     (record {
       idle = settles _ _ _ _ _ _ i.runs.running (unqueued-waits first_conn (world head es).waits);
       none = refl;

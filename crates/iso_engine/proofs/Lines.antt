@@ -84,9 +84,9 @@ pub taken : (head : Head) (lines : List Line) (es : List Entry) (k : ℕ) (l : L
 taken head lines es k l s can within there asks idle =
     dispatched head lines es l (drop (k + 1) lines) s can.conns
     (subst (λ x. IsNextLine lines x s) (sym there) (next_line head lines k l s can within
-        (ap (λ x. statement_in x.what) (sym there) ∙ ap statement_in asks)))
+    (ap (λ x. statement_in x.what) (sym there) ∙ ap statement_in asks)))
     (subst (λ x. IsIdle head lines es (x ∷ drop (k + 1) lines)) (sym there)
-        (subst (λ ls. IsIdle head lines es ls) (rw add-one (drop-cons lines k l within)) idle))
+    (subst (λ ls. IsIdle head lines es ls) (rw add-one (drop-cons lines k l within)) idle))
 
 -- its statement is of this stage
 pub built_at : (head : Head) (lines : List Line) (k : ℕ) (l : Line) (s : Statement) → CanRun head lines → k < length lines
@@ -95,4 +95,4 @@ built_at head lines k l s can within there asks =
     let whole : is_built_line head (get_or lines k l) ≡ true = at_all (is_built_line head) lines k l within can.built in
     let here : is_built_line head l ≡ true = subst (λ x. is_built_line head x ≡ true) (sym there) whole in
     subst (λ x. is_built_what head x ≡ true) asks
-        (second_of (not l.free) (is_built_what head l.what) (second_of (is_first l.conn) (not l.free && is_built_what head l.what) here))
+    (second_of (not l.free) (is_built_what head l.what) (second_of (is_first l.conn) (not l.free && is_built_what head l.what) here))

@@ -37,8 +37,10 @@ looks-at head lines es s t r kept left one table i = go (nat_lt r.0 (slots (worl
   where
     go : (b : Bool) → nat_lt r.0 (slots (world head es) t) ≡ b
         → GoesOn head lines (es ++ by_agent first_conn (look_act (world head es) t r) ∷ []) s t r.0 kept left (looked_of (world head es) t r)
-    go true h = rw h (looked-on head lines es s t _ r.0 kept left one table h i,
-        subst (λ n. r.0 + 1 ≤ n) (sym (slots-looked head es t r t)) (omega (arith, ltb-true r.0 (slots (world head es) t) h)))
+    go true h = rw h (
+      looked-on head lines es s t _ r.0 kept left one table h i,
+      subst (λ n. r.0 + 1 ≤ n) (sym (slots-looked head es t r t)) (omega (arith, ltb-true r.0 (slots (world head es) t) h)),
+    )
     go false h = rw h (ended-on head lines es s t _ r.0 kept left one table h i)
 
 -- the same with the step's clauses

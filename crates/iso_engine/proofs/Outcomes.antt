@@ -41,7 +41,6 @@ refuses_bad bytes n (cause.Duplicate p) r = absurd r
 refuses_bad bytes n (cause.Limit p) r = absurd r
 
 module _ (bytes : List ℕ) (status : ℕ) (history : List Entry) (old new : Option (List ℕ)) where
-
   headline-of : IsOutcome bytes status history old new → IsHeadline bytes status history old new
   headline-of (inl r) script reads_ began = absurd (began r.3)
   headline-of (inr (inl u)) script reads_ began = absurd (began u.1)

@@ -58,10 +58,10 @@ pub dispatched : (head : Head) (lines : List Line) (es : List Entry) (l : Line) 
     → IsRunning head lines (es ++ by_dispatcher (Dispatch l.number first_conn) ∷ []) (start_point s) left
 dispatched head lines es l left s one n i = running-snoc head lines es (by_dispatcher (Dispatch l.number first_conn)) (start_point s) left
     (way-snoc head lines es (l ∷ left) (by_dispatcher (Dispatch l.number first_conn)) i.way
-      (rw i.way.open_ refl, (rw one refl, i.at_rest.idle))
-      (λ h. absurd (cc))
-      (refl, n.conn, rw n.what refl, quiet (l.free) (rests head (world head es) one i.at_rest.idle))
-      i.way.open_)
+    (rw i.way.open_ refl, (rw one refl, i.at_rest.idle))
+    (λ h. absurd (cc))
+    (refl, n.conn, rw n.what refl, quiet (l.free) (rests head (world head es) one i.at_rest.idle))
+    i.way.open_)
     (record {
       running = opens _ _ _ _ _ i.at_rest.idle;
       opened_ = rw i.at_rest.none (rw n.found (rw n.what refl));
@@ -88,14 +88,14 @@ pub looked-on : (head : Head) (lines : List Line) (es : List Entry) (s : Stateme
     → length head.conns ≡ 1 → is_table head t ≡ true → nat_lt r (slots (world head es) t) ≡ true
     → IsRunning head lines es (scanning s t parts r kept) left
     → IsRunning head lines (es ++ by_agent first_conn (Look t (record { 0 = r }) Dirty Got.Granted) ∷ [])
-        (looked (scanning s t parts r kept) (shown (world head es) first_conn t (record { 0 = r }) Dirty)) left
+    (looked (scanning s t parts r kept) (shown (world head es) first_conn t (record { 0 = r }) Dirty)) left
 looked-on head lines es s t parts r kept left one table below i =
     running-snoc head lines es (by_agent first_conn (Look t (record { 0 = r }) Dirty Got.Granted)) _ left
     (way-snoc head lines es left (by_agent first_conn (Look t (record { 0 = r }) Dirty Got.Granted)) i.way
-      (rw i.way.open_ refl, (rw one refl, (i.runs.running, (table, below))))
-      (λ h. rw (i.runs.running, i.runs.opened_, below) refl)
-      tt
-      i.way.open_)
+    (rw i.way.open_ refl, (rw one refl, (i.runs.running, (table, below))))
+    (λ h. rw (i.runs.running, i.runs.opened_, below) refl)
+    tt
+    i.way.open_)
     (record {
       running = i.runs.running;
       opened_ = rw i.runs.opened_ refl;
@@ -109,14 +109,14 @@ pub ended-on : (head : Head) (lines : List Line) (es : List Entry) (s : Statemen
     → length head.conns ≡ 1 → is_table head t ≡ true → nat_lt r (slots (world head es) t) ≡ false
     → IsRunning head lines es (scanning s t parts r kept) left
     → IsRunning head lines (es ++ by_agent first_conn (ScanEnd t (slots (world head es) t)) ∷ [])
-        (record { statement = s; left = parts; rid = r; kept = kept }) left
+    (record { statement = s; left = parts; rid = r; kept = kept }) left
 ended-on head lines es s t parts r kept left one table past i =
     running-snoc head lines es (by_agent first_conn (ScanEnd t (slots (world head es) t))) _ left
     (way-snoc head lines es left (by_agent first_conn (ScanEnd t (slots (world head es) t))) i.way
-      (rw i.way.open_ refl, (rw one refl, (i.runs.running, table, refl)))
-      (λ h. rw (i.runs.running, i.runs.opened_, past) refl)
-      tt
-      i.way.open_)
+    (rw i.way.open_ refl, (rw one refl, (i.runs.running, table, refl)))
+    (λ h. rw (i.runs.running, i.runs.opened_, past) refl)
+    tt
+    i.way.open_)
     (record {
       running = i.runs.running;
       opened_ = rw i.runs.opened_ refl;
@@ -130,14 +130,14 @@ pub inserted-on : (head : Head) (lines : List Line) (es : List Entry) (s : State
     → length head.conns ≡ 1 → is_table head t ≡ true → row_fits head t row ≡ true → nat_lt (slots (world head es) t) 65536 ≡ true
     → IsRunning head lines es (record { statement = s; left = NewRow t row ∷ parts; rid = r; kept = kept }) left
     → IsRunning head lines (es ++ by_agent first_conn (Insert t (next_rid (world head es) t) row) ∷ [])
-        (record { statement = s; left = parts; rid = r; kept = kept }) left
+    (record { statement = s; left = parts; rid = r; kept = kept }) left
 inserted-on head lines es s t row parts r kept left one table fits room i =
     running-snoc head lines es (by_agent first_conn (Insert t (next_rid (world head es) t) row)) _ left
     (way-snoc head lines es left (by_agent first_conn (Insert t (next_rid (world head es) t) row)) i.way
-      (rw i.way.open_ refl, (rw one refl, (i.runs.running, (table, fits, refl, room))))
-      (λ h. rw (i.runs.running, i.runs.opened_) refl)
-      tt
-      i.way.open_)
+    (rw i.way.open_ refl, (rw one refl, (i.runs.running, (table, fits, refl, room))))
+    (λ h. rw (i.runs.running, i.runs.opened_) refl)
+    tt
+    i.way.open_)
     (record {
       running = i.runs.running;
       opened_ = rw i.runs.opened_ refl;

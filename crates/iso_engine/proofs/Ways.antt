@@ -49,7 +49,7 @@ pub running-snoc : (head : Head) (lines : List Line) (es : List Entry) (e : Entr
 running-snoc head lines es e q left u r = record {
   way = u;
   runs = subst (λ w. RunsAt lines w (point head lines (es ++ e ∷ []) first_conn) q left) (sym (world-snoc head es e))
-    (subst (λ o. RunsAt lines (after head (world head es) e) o q left) (sym (point-snoc head lines first_conn es e)) r);
+      (subst (λ o. RunsAt lines (after head (world head es) e) o q left) (sym (point-snoc head lines first_conn es e)) r);
 }
 
 pub idle-snoc : (head : Head) (lines : List Line) (es : List Entry) (e : Entry) (left : List Line)
@@ -59,7 +59,7 @@ pub idle-snoc : (head : Head) (lines : List Line) (es : List Entry) (e : Entry) 
 idle-snoc head lines es e left u r = record {
   way = u;
   at_rest = subst (λ w. RestsAt w (point head lines (es ++ e ∷ []) first_conn) left) (sym (world-snoc head es e))
-    (subst (λ o. RestsAt (after head (world head es) e) o left) (sym (point-snoc head lines first_conn es e)) r);
+      (subst (λ o. RestsAt (after head (world head es) e) o left) (sym (point-snoc head lines first_conn es e)) r);
 }
 
 -- a Dispatch to an idle connection lets it run, a statement's end lets it be idle

@@ -14,4 +14,4 @@ pub returns-clause-way : goal.returns-clause-way
 returns-clause-way c = either_way {P = IsIdle c.reply.new.parts.head c.args.lines.now c.reply.new.parts.history.items (drop c.args.left c.args.lines.now)} _
     (returns-clause-ok c) c.reply.ensures.err (λ i. i.way)
     (λ same. kept (λ h es. IsUnderWay h c.args.lines.now es (drop c.args.left c.args.lines.now))
-        (content_of c.args.parts.now) (content_of c.reply.new.parts) same c.requires.runs.way)
+    (content_of c.args.parts.now) (content_of c.reply.new.parts) same c.requires.runs.way)

@@ -22,9 +22,9 @@ returns-in-Done-clause-ok c =
     carried (λ h es. IsRunning h c.args.lines.now es (inserted_out c.args.table c.args.row.now) (drop c.args.left c.args.lines.now)) _ _ _ _
     c.insert.ensures.head (c.in_ok-insert.ensures.done c.in-Done.is)
     (inserted-on _ _ _ _ _ _ _ _ _ _ c.requires.can.conns c.requires.table c.requires.fits
-        (room_of _ _ c.in-Done.is c.in_ok-insert.ensures.full) c.requires.runs)
+    (room_of _ _ c.in-Done.is c.in_ok-insert.ensures.full) c.requires.runs)
 
 pub returns-in-Done-clause-way : goal.returns-in-Done-clause-way
 returns-in-Done-clause-way c =
     let runs : IsRunning c.insert.new.parts.head c.args.lines.now c.insert.new.parts.history.items (inserted_out c.args.table c.args.row.now) (drop c.args.left c.args.lines.now)
-        = returns-in-Done-clause-ok c in runs.way
+    = returns-in-Done-clause-ok c in runs.way

@@ -15,4 +15,4 @@ pub returns-clause-way : goal.returns-clause-way
 returns-clause-way c = of_both _ (returns-clause-ok c) c.look.ensures.err
     (λ a g. goes-way _ _ _ _ _ _ _ _ a g)
     (λ same. kept (λ h es. IsUnderWay h c.args.lines.now es (drop c.args.left c.args.lines.now))
-        (content_of c.args.parts.now) (content_of c.look.new.parts) same c.requires.runs.way)
+    (content_of c.args.parts.now) (content_of c.look.new.parts) same c.requires.runs.way)

@@ -14,5 +14,5 @@ invariant-scan l = record {
   within : l.rid ≤ slots (world_of l.parts) l.query.table;
   few : length l.kept ≤ l.rid;
   runs : IsRunning l.parts.head l.lines l.parts.history.items
-    (scanning (Select l.query.table l.query.items.now Always l.query.level) l.query.table l.rid l.kept) (drop l.left l.lines);
+      (scanning (Select l.query.table l.query.items.now Always l.query.level) l.query.table l.rid l.kept) (drop l.left l.lines);
 }

@@ -17,4 +17,4 @@ returns-clause-legal c = either_way
     {P = IsRunning c.dispatch.new.parts.head c.args.lines.now c.dispatch.new.parts.history.items (start_point c.args.statement.now) (drop (c.args.at + 1) c.args.lines.now)} _
     (returns-clause-ok c) c.dispatch.ensures.err (λ i. so-far _ _ _ _ i.way)
     (λ same. kept (λ h es. IsSoFar h c.args.lines.now es)
-        (content_of c.args.parts.now) (content_of c.dispatch.new.parts) same (so-far _ _ _ _ c.requires.idle.way))
+    (content_of c.args.parts.now) (content_of c.dispatch.new.parts) same (so-far _ _ _ _ c.requires.idle.way))

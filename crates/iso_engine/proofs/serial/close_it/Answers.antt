@@ -11,6 +11,6 @@ returns-clause-ok c = on_ok _ (λ is. carried (λ h es. IsClosing h c.args.lines
 pub returns-clause-legal : goal.returns-clause-legal
 returns-clause-legal c = either_way _ c.close.ensures.ok c.close.ensures.err
     (λ is. carried (λ h es. IsSoFar h c.args.lines.now es) _ _ _ _
-        c.close.ensures.head is (so-far _ _ _ _ (closed-on _ _ _ c.requires.can.conns c.requires.idle).way))
+    c.close.ensures.head is (so-far _ _ _ _ (closed-on _ _ _ c.requires.can.conns c.requires.idle).way))
     (λ same. kept (λ h es. IsSoFar h c.args.lines.now es)
-        (content_of c.args.parts.now) (content_of c.close.new.parts) same (so-far _ _ _ _ c.requires.idle.way))
+    (content_of c.args.parts.now) (content_of c.close.new.parts) same (so-far _ _ _ _ c.requires.idle.way))

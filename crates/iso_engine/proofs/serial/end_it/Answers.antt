@@ -11,6 +11,6 @@ returns-clause-ok c = on_ok _ (λ is. carried (λ h es. IsOver h c.args.lines.no
 pub returns-clause-legal : goal.returns-clause-legal
 returns-clause-legal c = either_way _ c.ended.ensures.ok c.ended.ensures.err
     (λ is. carried (λ h es. IsSoFar h c.args.lines.now es) _ _ _ _
-        c.ended.ensures.head is (so-far _ _ _ _ (over-on _ _ _ c.requires.can.conns c.requires.closing).way))
+    c.ended.ensures.head is (so-far _ _ _ _ (over-on _ _ _ c.requires.can.conns c.requires.closing).way))
     (λ same. kept (λ h es. IsSoFar h c.args.lines.now es)
-        (content_of c.args.parts.now) (content_of c.ended.new.parts) same (so-far _ _ _ _ c.requires.closing.way))
+    (content_of c.args.parts.now) (content_of c.ended.new.parts) same (so-far _ _ _ _ c.requires.closing.way))

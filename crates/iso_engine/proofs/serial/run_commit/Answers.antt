@@ -12,6 +12,6 @@ returns-clause-ok c = on_ok _ (λ is. carried (λ h es. IsIdle h c.args.lines.no
 pub returns-clause-way : goal.returns-clause-way
 returns-clause-way c = either_way _ c.commit.ensures.ok c.commit.ensures.err
     (λ is. carried (λ h es. IsUnderWay h c.args.lines.now es (drop c.args.left c.args.lines.now)) _ _ _ _
-        c.commit.ensures.head is (committed-on _ _ _ _ _ _ c.requires.can.conns c.requires.runs).way)
+    c.commit.ensures.head is (committed-on _ _ _ _ _ _ c.requires.can.conns c.requires.runs).way)
     (λ same. kept (λ h es. IsUnderWay h c.args.lines.now es (drop c.args.left c.args.lines.now))
-        (content_of c.args.parts.now) (content_of c.commit.new.parts) same c.requires.runs.way)
+    (content_of c.args.parts.now) (content_of c.commit.new.parts) same c.requires.runs.way)
