@@ -10,3 +10,6 @@ mod serial;
 
 pub use job::{Report, db2iso};
 pub use run::run_serial;
+
+#[cfg(test)]
+mod tests;

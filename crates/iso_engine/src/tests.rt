@@ -1,0 +1,171 @@
+use super::*;
+use iso_io::{SinkMemory, SourceMemory};
+use iso_types::{Items, OpenGate};
+use std::sync::Wait;
+use std::test::Fail;
+use std::thread::Threads;
+
+const FIRST: &[u8] =
+    b"DB2ISO 1\nTABLE T (N INTEGER)\nCONNECT A\nBEGIN\nA: INSERT INTO T VALUES (7)\nA: SELECT N FROM T WITH UR\nA: COMMIT\nEND\n";
+
+const TOLD: &[u8] = b"5 A SQLCODE 0 ROWS 1\n6 A ROW 7\n6 A SQLCODE 0\n7 A SQLCODE 0\nEND\n";
+
+// The first script with a comment, empty lines, CR LF, tabs and small letters.
+const LOOSE: &[u8] =
+    b"-- first\r\n\r\ndb2iso\t1\r\nTable T (n Integer)\r\n\t\r\nconnect a\r\nbegin\r\n\ta: insert into t values (7)\r\na: select n from t with ur\r\nA :commit\r\nend\r\n";
+
+const LOOSELY_TOLD: &[u8] =
+    b"8 A SQLCODE 0 ROWS 1\n9 A ROW 7\n9 A SQLCODE 0\n10 A SQLCODE 0\nEND\n";
+
+const EMPTY: &[u8] =
+    b"DB2ISO 1\nTABLE T (N INTEGER, M INTEGER)\nCONNECT A\nBEGIN\nA: SELECT M FROM T WITH UR\nA: INSERT INTO T VALUES (NULL, -3)\nA: SELECT N FROM T WITH UR\nA: COMMIT\nEND\n";
+
+const EMPTY_TOLD: &[u8] =
+    b"5 A SQLCODE 100\n6 A SQLCODE 0 ROWS 1\n7 A ROW NULL\n7 A SQLCODE 0\n8 A SQLCODE 0\nEND\n";
+
+// The words, the script, what is written, and the status.
+const CASES: [(&[&str], &[u8], &[u8], u8); 11] = [
+    (&["serial"], FIRST, TOLD, 0),
+    (&["serial"], LOOSE, LOOSELY_TOLD, 0),
+    (&["serial"], EMPTY, EMPTY_TOLD, 0),
+    (
+        &["serial"],
+        b"DB2ISO 1\nBEGIN\nEND\n",
+        b"LINE 2 UNBUILT AT 1\n",
+        2,
+    ),
+    (
+        &["serial"],
+        b"DB2ISO 1\nTABLE T (N INTEGER)\nCONNECT A\nBEGIN\nA: INSERT INTO T VALUES (7)\nA: SELECT N FROM T WITH UR\nA: COMMIT\n",
+        b"LINE 8 UNBUILT AT 1\n",
+        2,
+    ),
+    (&[], FIRST, b"USAGE\n", 1),
+    (&["serial", "serial"], FIRST, b"USAGE\n", 1),
+    (&["SERIAL"], FIRST, b"USAGE\n", 1),
+    (&["run"], FIRST, b"USAGE\n", 1),
+    (&[""], FIRST, b"USAGE\n", 1),
+    (&["serial"], b"", b"LINE 1 UNBUILT AT 1\n", 2),
+];
+
+// The status for these words and streams, and the number of entries.
+fn answer<R: Threads + Wait + Sync + AllocGlobal>(
+    rt: &R,
+    words: &[&str],
+    source: &mut SourceMemory,
+    sink: &mut SinkMemory,
+) -> Result<(u8, usize), Fail> {
+    let mut list = Vec::new(rt.alloc());
+    for word in words {
+        list.push(format!(in rt.alloc(); "{word}")?)?;
+    }
+    let report = db2iso(rt, rt.alloc(), list.as_slice(), source, sink, &OpenGate);
+    Ok((report.status, report.history.len()))
+}
+
+// A source of these bytes, so many a call, whose listed calls fail.
+fn source(
+    rt: &impl AllocGlobal,
+    bytes: &[u8],
+    most: usize,
+    fails: &[bool],
+) -> Result<SourceMemory, Fail> {
+    let bytes = Items::from_vec(bytes.to_vec(rt.alloc())?);
+    let fails = Items::from_vec(fails.to_vec(rt.alloc())?);
+    Ok(SourceMemory::new(bytes, most.max(1), fails))
+}
+
+// A sink that takes so many bytes a call, and whose listed calls fail.
+fn sink(rt: &impl AllocGlobal, most: usize, fails: &[bool]) -> Result<SinkMemory, Fail> {
+    let fails = Items::from_vec(fails.to_vec(rt.alloc())?);
+    Ok(SinkMemory::new(rt.alloc(), most.max(1), fails))
+}
+
+// Whether a case gives its output and status, with so many bytes a call.
+fn gives<R: Threads + Wait + Sync + AllocGlobal>(
+    rt: &R,
+    words: &[&str],
+    script: &[u8],
+    output: &[u8],
+    status: u8,
+    most: usize,
+) -> Result<bool, Fail> {
+    let mut from = source(rt, script, most, &[])?;
+    let mut to = sink(rt, most, &[])?;
+    let told = answer(rt, words, &mut from, &mut to)?;
+    Ok(told.0 == status && to.held() == output)
+}
+
+// Whether a sink that fails after so many bytes holds just these of the output, with status `status`.
+fn fails_after<R: Threads + Wait + Sync + AllocGlobal>(
+    rt: &R,
+    words: &[&str],
+    script: &[u8],
+    output: &[u8],
+    count: usize,
+    status: u8,
+) -> Result<bool, Fail> {
+    let mut from = source(rt, script, 4096, &[])?;
+    let mut to = sink(rt, count, if count == 0 { &[true] } else { &[false, true] })?;
+    let told = answer(rt, words, &mut from, &mut to)?;
+    Ok(told.0 == status && to.held() == &output[..count.min(output.len())])
+}
+
+// Whether a source that fails at its second call gives status 3 with nothing written.
+fn source_fails<R: Threads + Wait + Sync + AllocGlobal>(
+    rt: &R,
+    fails: &[bool],
+) -> Result<bool, Fail> {
+    let mut from = source(rt, FIRST, 10, fails)?;
+    let mut to = sink(rt, 4096, &[])?;
+    let told = answer(rt, &["serial"], &mut from, &mut to)?;
+    Ok(told.0 == 3 && told.1 == 0 && to.held().is_empty())
+}
+
+#[test]
+fn scripts_give_their_output(rt: HostRuntime) -> Result<(), Fail> {
+    for (words, script, output, status) in CASES {
+        for most in [1, 7, 4096] {
+            assert!(rt;
+                gives(&rt, words, script, output, status, most)?,
+                "{status}, {most}"
+            );
+        }
+    }
+    let mut from = source(&rt, FIRST, 4096, &[])?;
+    let mut to = sink(&rt, 4096, &[])?;
+    assert_eq!(rt; answer(&rt, &["serial"], &mut from, &mut to)?, (0, 12));
+    Ok(())
+}
+
+#[test]
+fn streams_that_fail(rt: HostRuntime) -> Result<(), Fail> {
+    assert!(rt; source_fails(&rt, &[true])?);
+    assert!(rt; source_fails(&rt, &[false, true])?);
+    for count in 0..TOLD.len() {
+        assert!(rt;
+            fails_after(&rt, &["serial"], FIRST, TOLD, count, 4)?,
+            "{count}"
+        );
+    }
+    for count in 0..6 {
+        assert!(rt;
+            fails_after(&rt, &["run"], FIRST, b"USAGE\n", count, 1)?,
+            "{count}"
+        );
+    }
+    for count in 0..20 {
+        assert!(rt;
+            fails_after(&rt, &["serial"], b"", b"LINE 1 UNBUILT AT 1\n", count, 2)?,
+            "{count}"
+        );
+    }
+    Ok(())
+}
+
+#[test]
+fn a_script_too_long(rt: HostRuntime) -> Result<(), Fail> {
+    let long = vec![in rt.alloc(); b'-'; 1_048_577]?;
+    assert!(rt; gives(&rt, &["serial"], &long, b"LINE 0 TOO LONG\n", 2, 1_000_000)?);
+    Ok(())
+}
