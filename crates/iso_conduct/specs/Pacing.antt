@@ -1,5 +1,5 @@
 -- In which order the dispatcher takes the body lines.
-use Rattle.std.specs.Prelude.{◌≡◌, Bool, true, false, ◌||◌, List, [], ◌∷◌, IsTrue, IsSome, Some, ℕ}
+use Rattle.std.specs.Prelude.{◌≡◌, ◌||◌, List, [], ◌∷◌, IsTrue, IsSome, Some, ℕ}
 use Rattle.iso_conduct.specs.Points.{statement_in}
 use Rattle.iso_history.specs.After.{after, start}
 use Rattle.iso_history.specs.Legal.{are_resting}

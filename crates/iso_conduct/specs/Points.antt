@@ -1,5 +1,4 @@
 -- A statement at one point of its conduct: what is left of its own entries, and what its scan has kept.
-use Rattle.std.specs.Option.{option_map}
 use Rattle.std.specs.Prelude.{ℕ, ◌+◌, Bool, true, false, List, [], ◌∷◌, ◌++◌, map, length, Option, Some, None, find, ◌==◌, slice_index_or, nat_lt, ℤ, pos, if◌then◌else◌}
 use Rattle.iso_history.specs.Looks.{shown}
 use Rattle.iso_history.specs.Versions.{next_rid, slots}
@@ -17,7 +16,6 @@ use Rattle.iso_sql.specs.declared.statement.Items2.TheVariants.{All, Columns, Co
 use Rattle.iso_sql.specs.declared.statement.Statement.{Statement}
 use Rattle.iso_sql.specs.declared.statement.Statement.TheVariants.{Select}
 use Rattle.iso_types.specs.declared.value.Conn.{Conn}
-use Rattle.iso_types.specs.declared.value.Rid.{Rid}
 use Rattle.iso_types.specs.declared.value.TableId.{TableId}
 use Rattle.iso_types.specs.declared.value.Value.{Value}
 use Rattle.iso_types.specs.declared.value.Value.TheVariants.{Int, Null}

@@ -1,8 +1,7 @@
 //! Conduct: which own entries the statements of a script make, in which order the dispatcher takes its
-//! lines, and so which histories are legal.
+//! lines, and so which histories are legal. The definitions stand in specs/; here are laws of them.
 #![tactic(auto)]
 
-ghost use Rattle.std.specs.Prelude.{List};
+mod laws;
 
-/// Nothing yet to run: the definitions stand in specs/, their laws in proofs/.
-pub struct Laws;
+pub use laws::{finished_takes_all_lines, one_entry_is_next, others_leave_the_point};

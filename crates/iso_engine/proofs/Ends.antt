@@ -1,27 +1,23 @@
 -- The entries that end a statement, and those that end the run.
-use Rattle.std.proofs.Common.{◌≡◌, ℕ, ◌<◌, Bool, true, false, not, ◌&&◌, List, [], ◌∷◌, ◌++◌, refl, sym, subst, ap, ◌∙◌, Option, Some, None, is_some, is_none, IsTrue, length, arith, nat_lt, ℤ, find, filter}
+use Rattle.std.proofs.Common.{◌≡◌, ℕ, Bool, true, false, List, [], ◌∷◌, ◌++◌, refl, sym, subst, ap, Option, Some, None, is_some, IsTrue, length, arith, ℤ}
 use Rattle.std.proofs.lemmas.Bool.{ltb-true}
-use Rattle.iso_conduct.specs.Conduct.{Conduct, Does, opened, point, point_after}
+use Rattle.iso_conduct.specs.Conduct.{Conduct}
 use Rattle.iso_conduct.specs.Legal.{IsLegal}
-use Rattle.iso_conduct.specs.Points.{Part, Point, reply_of, select_code, select_rows}
+use Rattle.iso_conduct.specs.Points.{reply_of, select_code, select_rows}
 use Rattle.iso_conduct.specs.Points.Part.{Answer, Settles}
-use Rattle.iso_engine.proofs.Ways.{idle-snoc, one_conn, rests, shuts, way-snoc}
-use Rattle.iso_engine.specs.UnderWay.{IsClosing, IsIdle, IsOver, IsRunning, IsSoFar, IsUnderWay, RestsAt, RunsAt, ends_unit, first_conn}
+use Rattle.iso_engine.proofs.Ways.{idle-snoc, rests, shuts, way-snoc}
+use Rattle.iso_engine.specs.UnderWay.{IsClosing, IsIdle, IsOver, IsRunning, IsSoFar, IsUnderWay, ends_unit, first_conn}
 use mir.Val.{of_z, to_z}
 use mir.Syntax.{w32}
 use Rattle.iso_conduct.proofs.Snoc.{Conduct-snoc, Paced-snoc}
 use Rattle.iso_history.proofs.Snoc.{Ground-snoc, world-snoc}
-use Rattle.iso_history.specs.After.{after, world}
+use Rattle.iso_history.specs.After.{world}
 use Rattle.iso_history.specs.Makers.{by_agent, by_dispatcher}
-use Rattle.iso_history.specs.Phases.{phase, phase_of}
-use Rattle.iso_history.specs.Quiet.{all_ended}
-use Rattle.iso_history.specs.Records.{left_of}
-use Rattle.iso_history.specs.World.{World}
+use Rattle.iso_history.specs.Phases.{phase_of}
 use Rattle.iso_history.specs.declared.entry.Act.{Act}
 use Rattle.iso_history.specs.declared.entry.Act.TheVariants.{Close, Commit, Finish, Reply}
 use Rattle.iso_history.specs.declared.entry.Entry.{Entry}
 use Rattle.iso_queue.specs.Queues.{Wait, is_waiting, unqueued}
-use Rattle.iso_script.specs.Built.{is_open_behind}
 use Rattle.iso_script.specs.declared.script.Line.{Line}
 use Rattle.iso_script.specs.declared.script.Script.{Script}
 use Rattle.iso_sql.specs.declared.statement.Condition.{Condition}

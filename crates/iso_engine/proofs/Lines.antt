@@ -1,5 +1,5 @@
 -- The line that is taken next.
-use Rattle.std.proofs.Common.{◌≡◌, ℕ, ◌<◌, ◌+◌, ◌&&◌, Bool, true, false, not, List, [], ◌∷◌, refl, sym, subst, ap, ◌∙◌, Option, Some, None, IsTrue, length, arith, nat_lt, get_or, zero, suc, find, ◌==◌, ◌++◌, drop, drop-cons, add-one}
+use Rattle.std.proofs.Common.{◌≡◌, ℕ, ◌<◌, ◌+◌, ◌&&◌, Bool, true, false, not, List, [], ◌∷◌, refl, sym, subst, ap, ◌∙◌, Option, Some, None, length, arith, nat_lt, get_or, zero, suc, ◌==◌, ◌++◌, drop, drop-cons, add-one}
 use Rattle.std.specs.List.{list_all}
 use Rattle.std.proofs.lemmas.Bool.{eq-eqb, eqb-true, ltb-true}
 use Rattle.std.proofs.lemmas.List.Folds.{list_all_at}

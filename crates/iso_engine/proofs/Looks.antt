@@ -1,10 +1,9 @@
 -- One look of a scan, with its answer.
-use Rattle.std.proofs.Common.{◌≡◌, ℕ, ◌<◌, ◌≤◌, ◌+◌, Bool, true, false, List, [], ◌∷◌, ◌++◌, refl, sym, subst, ap, ◌∙◌, Option, Some, None, IsTrue, length, arith, nat_lt, Result, Ok, Err, OnOk, OnErr, IfOk}
+use Rattle.std.proofs.Common.{◌≡◌, ℕ, ◌≤◌, ◌+◌, Bool, true, false, List, [], ◌∷◌, ◌++◌, refl, sym, subst, length, arith, nat_lt, Result, Ok, Err, OnOk, OnErr, IfOk}
 use Rattle.std.proofs.lemmas.Bool.{ltb-true}
-use Rattle.iso_conduct.specs.Points.{Point, looked}
 use Rattle.iso_engine.proofs.Carry.{carried}
 use Rattle.iso_engine.proofs.Turns.{ended-on, looked-on}
-use Rattle.iso_engine.specs.Scans.{GoesOn, scanned_out, scanning}
+use Rattle.iso_engine.specs.Scans.{GoesOn, scanning}
 use Rattle.iso_engine.specs.UnderWay.{IsRunning, IsUnderWay, first_conn}
 use Rattle.iso_history.proofs.Snoc.{world-snoc}
 use Rattle.iso_history.specs.After.{world}

@@ -1,15 +1,15 @@
 -- What the answers of the program come to.
-use Rattle.std.proofs.Common.{rules, ◌≡◌, ℕ, ◌≤◌, ◌<◌, ◌⊎◌, inl, inr, List, [], ◌∷◌, length, refl, sym, subst, Option, Bool, arith, Some, None}
+use Rattle.std.proofs.Common.{rules, ◌≡◌, ℕ, ◌≤◌, ◌⊎◌, inl, inr, List, [], length, refl, sym, subst, Option, arith}
 use Rattle.std.specs.Io.KnownBytes.{Appends}
 use Rattle.iso_conduct.specs.Legal.{IsLegal}
 use Rattle.iso_engine.proofs.Ends.{legal-of, so-far}
 use Rattle.iso_engine.proofs.Start.{starts}
-use Rattle.iso_engine.specs.Job.{IsAnswered, IsExact, IsHeadline, IsOutcome, IsRefusal, IsRefused, IsRun, IsTold, IsUnread, RefusedWith, refusal_at, too_long}
+use Rattle.iso_engine.specs.Job.{IsAnswered, IsExact, IsHeadline, IsOutcome, IsRefusal, IsTold, refusal_at, too_long}
 use Rattle.iso_history.specs.declared.entry.Entry.{Entry}
 use Rattle.iso_io.specs.Moves.{AppendsPart}
 use Rattle.iso_script.proofs.Exact.{not_both, one_script}
 use Rattle.iso_script.specs.Built.{IsBuilt}
-use Rattle.iso_script.specs.Reading.{Refuses, bad, reads}
+use Rattle.iso_script.specs.Reading.{Refuses, bad}
 use Rattle.iso_script.specs.declared.fault.LineCause.{LineCause}
 use Rattle.iso_script.specs.declared.fault.LineCause.TheVariants as cause
 use Rattle.iso_script.specs.declared.fault.ScriptFault.TheVariants as fault

@@ -1,32 +1,25 @@
 -- Each kind of entry on a run that is under way.
-use Rattle.std.proofs.Common.{◌≡◌, ℕ, ◌<◌, Bool, true, false, not, List, [], ◌∷◌, ◌++◌, refl, sym, subst, ap, ◌∙◌, Option, Some, None, is_some, is_none, IsTrue, IsSome, ◌||◌, length, arith, nat_lt}
-use Rattle.std.specs.Option.{option_map, option_map_or}
-use Rattle.iso_conduct.specs.Conduct.{Does, opened, point, point_after}
-use Rattle.iso_conduct.specs.Pacing.{Paces, lines_after, lines_left}
-use Rattle.iso_conduct.specs.Points.{Part, Point, line_at, looked, reply_of, scanned, start_point, statement_in, statement_on, told}
-use Rattle.iso_conduct.specs.Points.Part.{Answer, NewRow, Scan, Settles}
-use Rattle.iso_engine.proofs.Ways.{idle-snoc, one_conn, opens, rests, running-snoc, shuts, way-snoc}
-use Rattle.iso_engine.specs.UnderWay.{IsIdle, IsRunning, IsUnderWay, RestsAt, RunsAt, ends_unit, first_conn}
-use Rattle.iso_history.specs.After.{after, world}
-use Rattle.iso_history.specs.Legal.{Allowed, are_resting}
+use Rattle.std.proofs.Common.{◌≡◌, ℕ, Bool, true, false, List, [], ◌∷◌, ◌++◌, refl, ap, Option, Some, None, ◌||◌, length, nat_lt}
+use Rattle.std.specs.Option.{option_map_or}
+use Rattle.iso_conduct.specs.Points.{Part, Point, line_at, looked, start_point, statement_in}
+use Rattle.iso_conduct.specs.Points.Part.{NewRow, Scan}
+use Rattle.iso_engine.proofs.Ways.{opens, rests, running-snoc, way-snoc}
+use Rattle.iso_engine.specs.UnderWay.{IsIdle, IsRunning, ends_unit, first_conn}
+use Rattle.iso_history.specs.After.{world}
+use Rattle.iso_history.specs.Legal.{are_resting}
 use Rattle.iso_history.specs.Looks.{shown}
 use Rattle.iso_history.specs.Makers.{by_agent, by_dispatcher}
-use Rattle.iso_history.specs.Phases.{phase, phase_of}
 use Rattle.iso_history.specs.Versions.{next_rid, slots}
-use Rattle.iso_history.specs.World.{World}
-use Rattle.iso_history.specs.declared.entry.Act.{Act}
-use Rattle.iso_history.specs.declared.entry.Act.TheVariants.{Commit, Dispatch, Insert, Look, Reply, ScanEnd}
+use Rattle.iso_history.specs.declared.entry.Act.TheVariants.{Dispatch, Insert, Look, ScanEnd}
 use Rattle.iso_history.specs.declared.entry.Entry.{Entry}
 use Rattle.iso_history.specs.declared.entry.Got.{Got}
 use Rattle.iso_history.specs.declared.entry.Want.TheVariants.{Dirty}
-use Rattle.iso_script.specs.Built.{is_commit, is_open_behind}
+use Rattle.iso_script.specs.Built.{is_commit}
 use Rattle.iso_script.specs.declared.script.Line.{Line}
 use Rattle.iso_script.specs.declared.script.What.{What}
 use Rattle.iso_sql.specs.declared.statement.Statement.{Statement}
-use Rattle.iso_types.specs.Head.{conns, is_table, row_fits}
-use Rattle.iso_types.specs.declared.desk.Phase.TheVariants.{Closing, Idle, Running}
+use Rattle.iso_types.specs.Head.{is_table, row_fits}
 use Rattle.iso_types.specs.declared.head.Head.{Head}
-use Rattle.iso_types.specs.declared.value.Conn.{Conn}
 use Rattle.iso_types.specs.declared.value.TableId.{TableId}
 use Rattle.iso_types.specs.declared.value.Value.{Value}
 

@@ -1,29 +1,21 @@
 -- One more entry on a run that is under way.
-use Rattle.std.proofs.Common.{◌≡◌, ℕ, ◌<◌, Bool, true, false, not, List, [], ◌∷◌, ◌++◌, refl, sym, subst, ap, ◌∙◌, Option, Some, None, is_some, is_none, IsTrue, IsSome, ◌||◌, length, arith, nat_lt}
-use Rattle.std.specs.List.{list_all}
+use Rattle.std.proofs.Common.{◌≡◌, Bool, true, false, List, [], ◌∷◌, ◌++◌, refl, sym, subst, ap, ◌∙◌, length}
 use Rattle.iso_conduct.proofs.Snoc.{Conduct-snoc, Paced-snoc, lines_left-snoc, point-snoc}
-use Rattle.iso_conduct.specs.Conduct.{Does, opened, point, point_after}
-use Rattle.iso_conduct.specs.Pacing.{Paces, lines_after, lines_left}
-use Rattle.iso_conduct.specs.Points.{Answer, NewRow, Part, Point, Scan, Settles, line_at, looked, reply_of, scanned, start_point, statement_in, told}
-use Rattle.iso_engine.specs.UnderWay.{IsIdle, IsRunning, IsUnderWay, RestsAt, RunsAt, ends_unit, first_conn}
+use Rattle.iso_conduct.specs.Conduct.{Does, point, point_after}
+use Rattle.iso_conduct.specs.Pacing.{Paces, lines_after}
+use Rattle.iso_conduct.specs.Points.{Point}
+use Rattle.iso_engine.specs.UnderWay.{IsIdle, IsRunning, IsUnderWay, RestsAt, RunsAt, first_conn}
 use Rattle.iso_history.proofs.Snoc.{Ground-snoc, world-snoc}
 use Rattle.iso_history.specs.After.{after, world}
 use Rattle.iso_history.specs.Legal.{Allowed, are_resting}
-use Rattle.iso_history.specs.Makers.{by_agent, by_dispatcher}
-use Rattle.iso_history.specs.Paces.{is_finish, pace_by}
+use Rattle.iso_history.specs.Paces.{pace_by}
 use Rattle.iso_history.specs.Phases.{phase, phase_of}
 use Rattle.iso_history.specs.World.{World}
-use Rattle.iso_history.specs.declared.entry.Act.{Act}
-use Rattle.iso_history.specs.declared.entry.Act.TheVariants.{Commit, Dispatch}
 use Rattle.iso_history.specs.declared.entry.Entry.{Entry}
-use Rattle.iso_script.specs.Built.{is_commit, is_open_behind}
 use Rattle.iso_script.specs.declared.script.Line.{Line}
-use Rattle.iso_script.specs.declared.script.What.{What}
-use Rattle.iso_sql.specs.declared.statement.Statement.{Statement}
 use Rattle.iso_types.specs.Head.{conns}
-use Rattle.iso_types.specs.declared.desk.Phase.TheVariants.{Closing, Idle, Running}
+use Rattle.iso_types.specs.declared.desk.Phase.TheVariants.{Idle, Running}
 use Rattle.iso_types.specs.declared.head.Head.{Head}
-use Rattle.iso_types.specs.declared.value.Conn.{Conn}
 
 -- the history is legal so far after one more entry that may stand there
 pub way-snoc : (head : Head) (lines : List Line) (es : List Entry) (left : List Line) (e : Entry)

@@ -1,4 +1,4 @@
-use Rattle.std.proofs.Common.{◌≡◌, ℕ, List, [], ◌∷◌, length, get_or, refl, ap, map, String, string_bytes, Global, sym, ◌∙◌, Bool, true, nat_eq, IsTrue}
+use Rattle.std.proofs.Common.{◌≡◌, ℕ, List, [], ◌∷◌, length, get_or, ap, String, string_bytes, Global, sym, Bool, true, nat_eq, IsTrue}
 use Rattle.std.specs.Cmp.Lexicographic.{pointwise, bytes_decides}
 use Rattle.iso_engine.specs.Job.{texts}
 

@@ -7,10 +7,7 @@ use Rattle.iso_history.specs.After.{world}
 use Rattle.iso_history.specs.Versions.{slots}
 use Rattle.iso_history.specs.declared.entry.Entry.{Entry}
 use Rattle.iso_script.specs.declared.script.Line.{Line}
-use Rattle.iso_sql.specs.declared.statement.Condition.TheVariants.{Always}
-use Rattle.iso_sql.specs.declared.statement.Items2.{Items2}
 use Rattle.iso_sql.specs.declared.statement.Statement.{Statement}
-use Rattle.iso_sql.specs.declared.statement.Statement.TheVariants.{Select}
 use Rattle.iso_state.specs.declared.answers.Looked.{Looked}
 use Rattle.iso_state.specs.declared.answers.Looked.TheVariants.{EndOfTable, Shown}
 use Rattle.iso_types.specs.declared.head.Head.{Head}

@@ -1,5 +1,5 @@
 -- Where a run on one thread stands between two entries, with one connection.
-use Rattle.std.specs.Prelude.{◌≡◌, Bool, true, false, not, List, [], ◌∷◌, Option, Some, None, is_some}
+use Rattle.std.specs.Prelude.{◌≡◌, Bool, true, false, not, List, [], Option, Some, None, is_some}
 use Rattle.iso_conduct.specs.Conduct.{Conduct, opened, point}
 use Rattle.iso_conduct.specs.Pacing.{Paced, lines_left}
 use Rattle.iso_conduct.specs.Points.{Point}

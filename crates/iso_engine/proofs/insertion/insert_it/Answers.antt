@@ -1,11 +1,9 @@
-use Rattle.std.proofs.Common.{◌≡◌, ◌≤◌, ◌↔◌, ℕ, Bool, true, false, nat_lt, drop, refl, arith}
+use Rattle.std.proofs.Common.{◌≡◌, ◌≤◌, ◌↔◌, ℕ, Bool, true, false, nat_lt, drop, refl}
 use Rattle.std.proofs.lemmas.Bool.{ltb-false}
 use Rattle.iso_engine.specs.Scans.{inserted_out}
-use Rattle.iso_engine.specs.UnderWay.{IsRunning, IsUnderWay}
-use Rattle.iso_engine.proofs.Carry.{carried, kept}
+use Rattle.iso_engine.specs.UnderWay.{IsRunning}
+use Rattle.iso_engine.proofs.Carry.{carried}
 use Rattle.iso_engine.proofs.Turns.{inserted-on}
-use Rattle.iso_history.specs.Versions.{slots}
-use Rattle.iso_state.specs.Stands.{content_of, world_of}
 use Rattle.iso_state.specs.declared.answers.Written.{Written}
 use Rattle.iso_engine.proofs.insertion.insert_it.Goals as goal
 

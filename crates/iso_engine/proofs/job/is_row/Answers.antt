@@ -1,4 +1,4 @@
-use Rattle.std.proofs.Common.{rules, ◌≡◌, ℕ, length, arith}
+use Rattle.std.proofs.Common.{◌≡◌, length, arith}
 use Rattle.iso_engine.proofs.Words.{one_word, is_word}
 use Rattle.iso_engine.proofs.job.is_row.Goals as goal
 

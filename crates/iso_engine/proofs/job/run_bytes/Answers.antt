@@ -1,5 +1,5 @@
-use Rattle.std.proofs.Common.{inl, inr}
-use Rattle.iso_engine.proofs.Outcomes.{answered, refusal-outcome, refuses_bad, unread-answered}
+use Rattle.std.proofs.Common.{inr}
+use Rattle.iso_engine.proofs.Outcomes.{answered}
 use Rattle.iso_engine.proofs.job.run_bytes.Goals as goal
 
 pub returns-in-Ok-clause-answered : goal.returns-in-Ok-clause-answered

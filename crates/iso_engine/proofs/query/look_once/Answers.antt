@@ -1,6 +1,4 @@
 use Rattle.std.proofs.Common.{drop}
-use Rattle.iso_sql.specs.declared.statement.Condition.TheVariants.{Always}
-use Rattle.iso_sql.specs.declared.statement.Statement.TheVariants.{Select}
 use Rattle.iso_engine.specs.UnderWay.{IsUnderWay}
 use Rattle.iso_engine.proofs.Carry.{kept}
 use Rattle.iso_engine.proofs.Looks.{goes-way, if_ok, looks, of_both}
