@@ -1,21 +1,27 @@
 -- The lock list: names, each with its holders and waiters. The order of the names is of no matter.
 -- Db2 LUW, 'locklist' and 'maxlocks' configuration parameters; the unit of a slot is this project's own.
-use Rattle.std.specs.Prelude.{◌≡◌, ◌<◌, ◌++◌, length, slice_set, slice_index, ℕ, zero, suc, ◌+◌, Bool, true, false, not, ◌&&◌, ◌||◌, List, [], ◌∷◌, if◌then◌else◌, nat_lt, count_by, Result, Ok, Err}
+use Rattle.std.specs.Option.{option_and_then, option_map, option_map_or}
+use Rattle.std.specs.Prelude.{◌≡◌, ◌<◌, ◌++◌, length, slice_get, slice_set, slice_index, ℕ, zero, suc, ◌+◌, Bool, true, false, not, ◌&&◌, ◌||◌, List, [], ◌∷◌, if◌then◌else◌, nat_lt, count_by, find, Option, None, Some, Result, Ok, Err}
 use Rattle.iso_locklist.specs.declared.places.Place.{Place}
 use Rattle.iso_locklist.specs.declared.room.LockFault.{LockFault}
 use Rattle.iso_locklist.specs.declared.room.Room.{Room}
 use Rattle.iso_locklist.specs.declared.room.Room.TheVariants.{AtCapacity, AtShare, Free}
-use Rattle.iso_queue.specs.Lines.{Line, is_touched, unheld}
+use Rattle.iso_modes.specs.Modes.{covers}
+use Rattle.iso_modes.specs.declared.Mode.{Mode}
+use Rattle.iso_queue.specs.Lines.{Line, edges_of, hold_of, is_touched, is_waiter, unheld, waiter_of}
 use Rattle.iso_queue.specs.declared.types.Asked.{Asked}
 use Rattle.iso_types.specs.Ids.{name_eq}
 use Rattle.iso_types.specs.declared.value.Conn.{Conn}
 use Rattle.iso_types.specs.declared.value.Name.{Name}
+use Rattle.iso_types.specs.declared.value.Name.TheVariants.{End, Key, Row, Table}
+use Rattle.iso_types.specs.declared.value.TableId.{TableId}
 
--- the lock list: its places, the share of one connection and the slots of all
+-- the lock list: its places, the share of one connection, the slots of all, and the table of each index
 pub record Ledger : Type 0 where
   pub places : List Place
   pub share : ℕ
   pub slots : ℕ
+  pub index_tables : List TableId
 
 -- nobody holds or awaits the name
 abbrev pub nobody : Line
@@ -88,3 +94,36 @@ IsLimited AtShare result = result ≡ Err LockFault.AtShare
 IsLimited AtCapacity result = result ≡ Err LockFault.AtCapacity
 IsLimited Free (Err f) = f ≡ LockFault.Memory
 IsLimited Free (Ok a) = Unit {0}
+
+-- the limits and the tables of the indexes are the same
+pub record IsSameLimits (l m : Ledger) : Type 0 where
+  pub share : l.share ≡ m.share
+  pub slots : l.slots ≡ m.slots
+  pub index_tables : l.index_tables ≡ m.index_tables
+
+-- the table of a row name or key name
+abbrev pub table_in : List TableId → Name → Option TableId
+table_in index_tables (Table t) = None
+table_in index_tables (Row t r) = Some t
+table_in index_tables (Key i v) = slice_get index_tables i.0
+table_in index_tables (End i) = slice_get index_tables i.0
+
+-- the connection's hold on the table covers the mode
+abbrev pub is_covered_on : List Place → Conn → Mode → TableId → Bool
+is_covered_on ps c m t = option_map_or (λ h. covers h.mode m) (hold_of (line_at ps (Table t)).holders c) false
+
+-- the connection's hold on the name's table covers the mode
+abbrev pub is_covered : Ledger → Conn → Name → Mode → Bool
+is_covered l c n m = option_map_or (is_covered_on l.places c m) (table_in l.index_tables n) false
+
+-- the place where the connection waits
+abbrev pub awaited : List Place → Conn → Option Place
+awaited ps c = find (λ p. is_waiter p.queue.waiters c) ps
+
+-- the name and the target of the connection's wait
+abbrev pub wait_in : List Place → Conn → Option (Name × Mode)
+wait_in ps c = option_and_then (λ p. option_map (λ w. (p.name, w.target)) (waiter_of p.queue.waiters c)) (awaited ps c)
+
+-- the edges of the connection's wait: bit d for connection d
+abbrev pub edges_in : List Place → Conn → ℕ
+edges_in ps c = option_map_or (λ p. edges_of p.queue c) (awaited ps c) 0

@@ -1,6 +1,7 @@
 //! The lock list: the holders and the queue of each lock name, and how many names each connection has.
 #![tactic(auto)]
 
+mod covering;
 mod list;
 mod places;
 mod room;

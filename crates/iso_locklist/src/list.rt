@@ -1,16 +1,17 @@
-ghost use Rattle.std.specs.Prelude.{◌≡◌, ◌<◌, ◌≤◌, [], IfOk, OnOk, OnErr, false, if◌then◌else◌};
-ghost use Rattle.iso_locklist.specs.Places.{IsLimited, all_taken, line_at, need_of, released, room_for, taken};
+ghost use Rattle.std.specs.Prelude.{◌≡◌, ◌<◌, ◌≤◌, [], IfOk, OnOk, OnErr, false, if◌then◌else◌, map};
+ghost use Rattle.iso_locklist.specs.Places.{IsLimited, IsSameLimits, all_taken, edges_in, is_covered, line_at, need_of, released, room_for, taken, wait_in};
 ghost use Rattle.iso_queue.specs.Lines.{asked, hold_of, is_granted, is_guarded_against, is_used};
 ghost use Rattle.iso_queue.specs.declared.types.Asked.{Asked as Outcome};
 ghost use Rattle.iso_types.specs.Ids.{name_eq};
 ghost use Rattle.iso_types.specs.declared.value.Name.{Name as Other};
 ghost use Rattle.iso_types.specs.Head.{lock_share, lock_slots};
 
-use crate::places::{Place, ask, find_place, need, queue_of, release_at};
+use crate::covering::{index_tables, table_of};
+use crate::places::{Place, ask, find_place, find_wait, need, queue_of, release_at};
 use crate::room::{LockFault, Room, room_in};
-use iso_modes::{Mode, Term};
+use iso_modes::{Mode, Term, covers};
 use iso_queue::{Asked, Hold};
-use iso_types::{Conn, Head, Memory, Name};
+use iso_types::{Conn, Edges, Head, Items, Memory, Name, TableId};
 use std::alloc::Global;
 use std::marker::Model;
 
@@ -23,6 +24,7 @@ pub struct LockList {
     total: u32,
     share: u32,
     slots: u32,
+    index_tables: Items<TableId>,
     alloc: Global,
 }
 
@@ -31,19 +33,21 @@ impl Model for LockList {
 
     ghost Value = { Ledger };
 
-    ghost view = { λ l. record { places = l.places.items; share = l.share; slots = l.slots } };
+    ghost view = { λ l. record { places = l.places.items; share = l.share; slots = l.slots; index_tables = l.index_tables } };
 
     ghost invariant = { λ l. IsCounted l.places.items l.counts l.total };
 }
 
 impl LockList {
-    /// A lock list in which nobody holds or awaits a name, with the slots and the share that the head gives.
+    /// A lock list in which nobody holds or awaits a name, with the slots, the share and the table of each index that the
+    /// head gives. `Memory`: want of memory. Its cost is the number of indexes.
     pub fn new(alloc: Global, head: &Head) -> Result<LockList, Memory>
         requires pages { head.now.config.locklist ≤ 4096 }
         requires percent { head.now.config.maxlocks ≤ 100 }
         ensures places { IfOk result (λ l. l.places ≡ []) }
         ensures share { IfOk result (λ l. l.share ≡ lock_share head.now.config) }
         ensures slots { IfOk result (λ l. l.slots ≡ lock_slots head.now.config) }
+        ensures index_tables { IfOk result (λ l. l.index_tables ≡ map (λ d. d.table) head.now.indexes) }
     {
         Ok(LockList {
             places: Vec::new(alloc),
@@ -51,6 +55,7 @@ impl LockList {
             total: 0,
             share: head.config.share(),
             slots: head.config.slots(),
+            index_tables: index_tables(alloc, head.indexes.as_slice())?,
             alloc,
         })
     }
@@ -104,6 +109,40 @@ impl LockList {
         }
     }
 
+    /// Whether the connection's hold on the name's table covers a request for the mode, which then takes no lock. Nothing
+    /// covers a request on a table.
+    pub fn covered(&self, conn: Conn, name: Name, mode: Mode) -> bool
+        ensures { result ≡ is_covered self.now conn name mode }
+    {
+        let Some(table) = table_of(self.index_tables.as_slice(), &name) else {
+            return false;
+        };
+        match self.held(conn, Name::Table(table)) {
+            Some(hold) => covers(hold.mode, mode),
+            None => false,
+        }
+    }
+
+    /// The name and the target of the connection's wait. Its cost is that of a look at each name.
+    pub fn waits(&self, conn: Conn) -> Option<(Name, Mode)>
+        ensures { result ≡ wait_in self.now.places conn }
+    {
+        let place = find_wait(&self.places, conn)?;
+        let wait = place.queue.wait(conn)?;
+        Some((place.name, wait.target))
+    }
+
+    /// The connections to which the connection's wait has an edge: each other holder of the name in a mode that does not
+    /// go with the target, and each earlier waiter. Its cost is that of a look at each name.
+    pub fn edges(&self, conn: Conn) -> Edges
+        ensures { result.0 ≡ edges_in self.now.places conn }
+    {
+        match find_wait(&self.places, conn) {
+            Some(place) => place.queue.edges(conn),
+            None => Edges(0),
+        }
+    }
+
     /// Whether another connection holds S or NW on the name.
     pub fn others_hold(&self, conn: Conn, name: Name) -> bool
         ensures { result ≡ is_guarded_against (line_at self.now.places name).holders conn }
@@ -139,7 +178,7 @@ impl LockList {
         ensures answer { IfOk result (λ a. a ≡ (if is_granted (line_at self.old.places name) conn mode then Outcome.Granted else Outcome.Queued)) }
         ensures line { OnOk result (line_at self.new.places name ≡ asked (line_at self.old.places name) conn mode term) }
         ensures others { (n : Other) → name_eq name n ≡ false → line_at self.new.places n ≡ line_at self.old.places n }
-        ensures limits { (self.new.share ≡ self.old.share) × (self.new.slots ≡ self.old.slots) }
+        ensures limits { IsSameLimits self.new self.old }
         ensures err { OnErr result (self.new ≡ self.old) }
     {
         let name = &name;
@@ -164,7 +203,7 @@ impl LockList {
         requires { conn.0 < 32 }
         ensures line { line_at self.new.places name ≡ released (line_at self.old.places name) conn }
         ensures others { (n : Other) → name_eq name n ≡ false → line_at self.new.places n ≡ line_at self.old.places n }
-        ensures limits { (self.new.share ≡ self.old.share) × (self.new.slots ≡ self.old.slots) }
+        ensures limits { IsSameLimits self.new self.old }
     {
         if let Some(at) = find_place(&self.places, &name) {
             let freed = release_at(&mut self.places, at, conn);

@@ -1,5 +1,6 @@
 ghost use Rattle.std.specs.Prelude.{◌≡◌, ◌+◌, slice_set, ◌<◌, length, slice_index_or, IfSome, IfNone, IfOk, OnOk, OnErr, if◌then◌else◌};
-ghost use Rattle.iso_locklist.specs.Places.{IsAbsent, IsPlaceOf, line_at, need_of, nobody, one, released, updated};
+ghost use Rattle.std.specs.Option.{option_copied};
+ghost use Rattle.iso_locklist.specs.Places.{IsAbsent, IsPlaceOf, awaited, line_at, need_of, nobody, one, released, updated};
 ghost use Rattle.iso_locklist.specs.declared.places.Place.{Place as Entry};
 ghost use Rattle.iso_queue.specs.Lines.{asked, is_granted, is_touched};
 ghost use Rattle.iso_queue.specs.declared.types.Asked.{Asked as Outcome};
@@ -47,6 +48,13 @@ pub fn queue_of<'a>(places: &'a [Place], name: &Name) -> Option<&'a Queue>
         Some(at) => Some(&places[at].queue),
         None => None,
     }
+}
+
+/// The place where the connection waits.
+pub fn find_wait(places: &[Place], conn: Conn) -> Option<&Place>
+    ensures { option_copied result ≡ awaited places.now conn }
+{
+    places.iter().find(|place| place.queue.wait(conn).is_some())
 }
 
 /// The slots that a request needs.
