@@ -2,3 +2,4 @@ pub mod Names
 pub mod Updates
 pub mod Touched
 pub mod Counts
+pub mod Parts

@@ -3,10 +3,13 @@ use Rattle.std.proofs.Common.{◌≡◌, ◌+◌, ℕ, Bool, true, false, not, �
 use Rattle.std.specs.List.{list_any}
 use Rattle.std.specs.Option.{option_map_or}
 use Rattle.std.specs.Prelude.{if◌then◌else◌, find, filter, is_some, Option, None, Some}
+use Rattle.std.proofs.lemmas.Bool.{eqb-true}
 use Rattle.std.proofs.lemmas.Cmp.{nat_eq_equiv}
 use Rattle.iso_modes.specs.declared.Mode.{Mode}
 use Rattle.iso_modes.specs.declared.Term.{Term}
-use Rattle.iso_locklist.specs.Places.{one, released}
+use Rattle.iso_locklist.specs.Places.{cancelled, one, released, without}
+use Rattle.iso_locklist.specs.declared.places.Part.{Part}
+use Rattle.iso_locklist.specs.declared.places.Part.TheVariants.{Hold as TheHold, Wait as TheWait}
 use Rattle.iso_queue.specs.Lines.{Line, asked, claimed, granted, is_granted, is_holder, is_touched, is_waiter, queued, raised, unheld, unqueued, wait_for, waiter_of, has_edge, taken_in}
 use Rattle.iso_queue.specs.declared.types.Hold.{Hold}
 use Rattle.iso_queue.specs.declared.types.Waiter.{Waiter}
@@ -96,14 +99,14 @@ kept r x xs e = rw e refl
 gone : {X : Type 0} (r : X → Bool) (x : X) (xs : List X) → r x ≡ false → filter r (x ∷ xs) ≡ filter r xs
 gone r x xs e = rw e refl
 
-without_by : {X : Type 0} (p r : X → Bool) (x : X) (xs : List X) → ((y : X) → r y ≡ false → p y ≡ false) → (b : Bool) → r x ≡ b
+left_by : {X : Type 0} (p r : X → Bool) (x : X) (xs : List X) → ((y : X) → r y ≡ false → p y ≡ false) → (b : Bool) → r x ≡ b
     → list_any p (filter r xs) ≡ list_any p xs → list_any p (filter r (x ∷ xs)) ≡ list_any p (x ∷ xs)
-without_by p r x xs apart true e ih = ap (list_any p) (kept r x xs e) ∙ any_cons p x (filter r xs) xs (p x) refl ih
-without_by p r x xs apart false e ih = ap (list_any p) (gone r x xs e) ∙ ih ∙ sym (any_no p x xs (apart x e))
+left_by p r x xs apart true e ih = ap (list_any p) (kept r x xs e) ∙ any_cons p x (filter r xs) xs (p x) refl ih
+left_by p r x xs apart false e ih = ap (list_any p) (gone r x xs e) ∙ ih ∙ sym (any_no p x xs (apart x e))
 
-without : {X : Type 0} (p r : X → Bool) (xs : List X) → ((y : X) → r y ≡ false → p y ≡ false) → list_any p (filter r xs) ≡ list_any p xs
-without p r [] apart = refl
-without p r (x ∷ xs) apart = without_by p r x xs apart (r x) refl (without p r xs apart)
+left_out : {X : Type 0} (p r : X → Bool) (xs : List X) → ((y : X) → r y ≡ false → p y ≡ false) → list_any p (filter r xs) ≡ list_any p xs
+left_out p r [] apart = refl
+left_out p r (x ∷ xs) apart = left_by p r x xs apart (r x) refl (left_out p r xs apart)
 
 -- a line touches by its holders or its waiters
 touched_any : (q : Line) (d : Conn) → is_touched q d ≡ (list_any (of_hold d) q.holders || list_any (of_waiter d) q.waiters)
@@ -150,18 +153,18 @@ not_false false e = sym e
 pub released_other : (q : Line) (c d : Conn) → conn_eq c d ≡ false → is_touched (record { holders = unheld c q.holders; waiters = q.waiters }) d ≡ is_touched q d
 released_other q c d ne =
     touched_like (record { holders = unheld c q.holders; waiters = q.waiters }) q d
-    (without (of_hold d) (λ h. not (conn_eq h.conn c)) q.holders (λ y e. nat_eq_equiv.congr y.conn.0 c.0 d.0 (not_false (conn_eq y.conn c) e) ∙ ne)) refl
+    (left_out (of_hold d) (λ h. not (conn_eq h.conn c)) q.holders (λ y e. nat_eq_equiv.congr y.conn.0 c.0 d.0 (not_false (conn_eq y.conn c) e) ∙ ne)) refl
 
 -- nor does a cancelled wait
 pub cancelled_other : (q : Line) (c d : Conn) → conn_eq c d ≡ false → is_touched (record { holders = q.holders; waiters = unqueued c q.waiters }) d ≡ is_touched q d
 cancelled_other q c d ne =
     touched_like (record { holders = q.holders; waiters = unqueued c q.waiters }) q d refl
-    (without (of_waiter d) (λ w. not (conn_eq w.conn c)) q.waiters (λ y e. nat_eq_equiv.congr y.conn.0 c.0 d.0 (not_false (conn_eq y.conn c) e) ∙ ne))
+    (left_out (of_waiter d) (λ w. not (conn_eq w.conn c)) q.waiters (λ y e. nat_eq_equiv.congr y.conn.0 c.0 d.0 (not_false (conn_eq y.conn c) e) ∙ ne))
 
 taken_in_other : (q : Line) (c : Conn) (x : Waiter) (d : Conn) → conn_eq c d ≡ false → is_touched (taken_in q c x) d ≡ is_touched q d
 taken_in_other q c x d ne =
     touched_like (taken_in q c x) q d (granted_other q.holders (record { conn = c; mode = x.target; term = x.term }) d ne)
-    (without (of_waiter d) (λ w. not (conn_eq w.conn c)) q.waiters (λ y e. nat_eq_equiv.congr y.conn.0 c.0 d.0 (not_false (conn_eq y.conn c) e) ∙ ne))
+    (left_out (of_waiter d) (λ w. not (conn_eq w.conn c)) q.waiters (λ y e. nat_eq_equiv.congr y.conn.0 c.0 d.0 (not_false (conn_eq y.conn c) e) ∙ ne))
 
 taken_or : (q : Line) (c d : Conn) (x : Waiter) → conn_eq c d ≡ false → (b : Bool) → is_touched (if b then q else taken_in q c x) d ≡ is_touched q d
 taken_or q c d x ne true = refl
@@ -206,15 +209,31 @@ or_none : (a b : Bool) → (a || b) ≡ false → (a ≡ false) × (b ≡ false)
 or_none true b e = cc
 or_none false b e = (refl, e)
 
--- a release touches for nobody anew
-pub released_none : (q : Line) (c : Conn) → is_touched q c ≡ false → is_touched (record { holders = unheld c q.holders; waiters = q.waiters }) c ≡ false
+-- what is left touches for nobody anew
+released_none : (q : Line) (c : Conn) → is_touched q c ≡ false → is_touched (released q c) c ≡ false
 released_none q c e =
     let both = or_none (list_any (of_hold c) q.holders) (list_any (of_waiter c) q.waiters) (sym (touched_any q c) ∙ e) in
-    touched_any (record { holders = unheld c q.holders; waiters = q.waiters }) c
+    touched_any (released q c) c
     ∙ ap (λ b. b || list_any (of_waiter c) q.waiters) (none_left (of_hold c) (λ h. not (conn_eq h.conn c)) q.holders both.0)
     ∙ both.1
 
--- what a release gives back, by what its connection touched before and after
+cancelled_none : (q : Line) (c : Conn) → is_touched q c ≡ false → is_touched (cancelled q c) c ≡ false
+cancelled_none q c e =
+    let both = or_none (list_any (of_hold c) q.holders) (list_any (of_waiter c) q.waiters) (sym (touched_any q c) ∙ e) in
+    touched_any (cancelled q c) c
+    ∙ ap (λ b. b || list_any (of_waiter c) (unqueued c q.waiters)) both.0
+    ∙ none_left (of_waiter c) (λ w. not (conn_eq w.conn c)) q.waiters both.1
+
+without_none : (part : Part) (q : Line) (c : Conn) → is_touched q c ≡ false → is_touched (without part c q) c ≡ false
+without_none Part.Hold q c e = released_none q c e
+without_none Part.Wait q c e = cancelled_none q c e
+
+-- for another connection nothing changes
+pub without_other : (part : Part) (q : Line) (c d : Conn) → conn_eq c d ≡ false → is_touched (without part c q) d ≡ is_touched q d
+without_other Part.Hold q c d ne = released_other q c d ne
+without_other Part.Wait q c d ne = cancelled_other q c d ne
+
+-- what is given back, by what the connection touched before and after
 abbrev pub given : Bool → Bool → ℕ
 given before after = if before then (if after then 0 else 1) else 0
 
@@ -224,12 +243,20 @@ given_by true false h = refl
 given_by false true h = cc (h refl)
 given_by false false h = refl
 
-pub freed_is : (q r : Line) (c : Conn) (before after : Bool) (freed : ℕ) → r ≡ released q c → before ≡ is_touched q c → after ≡ is_touched r c
-    → freed ≡ given before after → one (is_touched q c) ≡ freed + one (is_touched (released q c) c)
-freed_is q r c before after freed e f g h =
-    let k : freed ≡ given (is_touched q c) (is_touched (released q c) c) =
+pub freed_is : (part : Part) (q r : Line) (c : Conn) (before after : Bool) (freed : ℕ) → r ≡ without part c q → before ≡ is_touched q c → after ≡ is_touched r c
+    → freed ≡ given before after → one (is_touched q c) ≡ freed + one (is_touched (without part c q) c)
+freed_is part q r c before after freed e f g h =
+    let k : freed ≡ given (is_touched q c) (is_touched (without part c q) c) =
     h ∙ ap (λ a. given a after) f ∙ ap (λ b. given (is_touched q c) b) (g ∙ ap (λ (l : Line). is_touched l c) e) in
-    given_by (is_touched q c) (is_touched (released q c) c) (released_none q c) ∙ ap (λ x. x + one (is_touched (released q c) c)) (sym k)
+    given_by (is_touched q c) (is_touched (without part c q) c) (without_none part q c) ∙ ap (λ x. x + one (is_touched (without part c q) c)) (sym k)
 
 pub same_line : (r s : Line) → r.holders ≡ s.holders → r.waiters ≡ s.waiters → r ≡ s
 same_line r s e f = ap (λ h. record { holders = h; waiters = r.waiters }) e ∙ ap (λ w. record { holders = s.holders; waiters = w }) f
+
+claimed_by : (q : Line) (c d : Conn) (b : Bool) → conn_eq c d ≡ b → is_touched (claimed q c) d ≡ is_touched q d
+claimed_by q c d true e = subst (λ (x : Conn). is_touched (claimed q c) x ≡ is_touched q x) (ap (λ (k : ℕ). record { 0 = k }) (eqb-true c.0 d.0 e)) (claimed_own q c)
+claimed_by q c d false e = claimed_other q c d e
+
+-- a claim leaves what each connection touches
+pub claimed_same : (q : Line) (c d : Conn) → is_touched (claimed q c) d ≡ is_touched q d
+claimed_same q c d = claimed_by q c d (conn_eq c d) refl

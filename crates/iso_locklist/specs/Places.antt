@@ -1,14 +1,17 @@
 -- The lock list: names, each with its holders and waiters. The order of the names is of no matter.
 -- Db2 LUW, 'locklist' and 'maxlocks' configuration parameters; the unit of a slot is this project's own.
+use Rattle.std.specs.List.{list_any}
 use Rattle.std.specs.Option.{option_and_then, option_map, option_map_or}
-use Rattle.std.specs.Prelude.{◌≡◌, ◌<◌, ◌++◌, length, slice_get, slice_set, slice_index, ℕ, zero, suc, ◌+◌, Bool, true, false, not, ◌&&◌, ◌||◌, List, [], ◌∷◌, if◌then◌else◌, nat_lt, count_by, find, Option, None, Some, Result, Ok, Err}
+use Rattle.std.specs.Prelude.{◌≡◌, ◌<◌, ◌++◌, length, slice_get, slice_set, slice_index, map, ℕ, zero, suc, ◌+◌, Bool, true, false, not, ◌&&◌, ◌||◌, List, [], ◌∷◌, if◌then◌else◌, nat_lt, count_by, find, Option, None, Some, Result, Ok, Err}
+use Rattle.iso_locklist.specs.declared.places.Part.{Part}
+use Rattle.iso_locklist.specs.declared.places.Part.TheVariants.{Hold, Wait}
 use Rattle.iso_locklist.specs.declared.places.Place.{Place}
 use Rattle.iso_locklist.specs.declared.room.LockFault.{LockFault}
 use Rattle.iso_locklist.specs.declared.room.Room.{Room}
 use Rattle.iso_locklist.specs.declared.room.Room.TheVariants.{AtCapacity, AtShare, Free}
 use Rattle.iso_modes.specs.Modes.{covers}
 use Rattle.iso_modes.specs.declared.Mode.{Mode}
-use Rattle.iso_queue.specs.Lines.{Line, edges_of, hold_of, is_touched, is_waiter, unheld, waiter_of}
+use Rattle.iso_queue.specs.Lines.{Line, claimed, edges_of, hold_of, is_grantable, is_touched, is_waiter, unheld, unqueued, waiter_of}
 use Rattle.iso_queue.specs.declared.types.Asked.{Asked}
 use Rattle.iso_types.specs.Ids.{name_eq}
 use Rattle.iso_types.specs.declared.value.Conn.{Conn}
@@ -87,6 +90,23 @@ need_of ps c n = if is_touched (line_at ps n) c then 0 else 1
 -- the connection's hold goes
 abbrev pub released : Line → Conn → Line
 released q c = record { holders = unheld c q.holders; waiters = q.waiters }
+
+-- the connection's wait goes
+abbrev pub cancelled : Line → Conn → Line
+cancelled q c = record { holders = q.holders; waiters = unqueued c q.waiters }
+
+-- the connection's hold goes, or its wait
+abbrev pub without : Part → Conn → Line → Line
+without Hold c q = released q c
+without Wait c q = cancelled q c
+
+-- each name's line changed
+abbrev pub each_line : (Line → Line) → List Place → List Place
+each_line f ps = map (λ p. record { name = p.name; queue = f p.queue }) ps
+
+-- the connection's wait has no edge
+abbrev pub is_grantable_in : List Place → Conn → Bool
+is_grantable_in ps c = list_any (λ p. is_grantable p.queue c) ps
 
 -- a request fails by a limit exactly where its need is at that limit
 abbrev pub IsLimited : Room → Result Asked LockFault → Type 0

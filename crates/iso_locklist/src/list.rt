@@ -1,16 +1,18 @@
-ghost use Rattle.std.specs.Prelude.{◌≡◌, ◌<◌, ◌≤◌, [], IfOk, OnOk, OnErr, false, if◌then◌else◌, map};
-ghost use Rattle.iso_locklist.specs.Places.{IsLimited, IsSameLimits, all_taken, edges_in, is_covered, line_at, need_of, released, room_for, taken, wait_in};
-ghost use Rattle.iso_queue.specs.Lines.{asked, hold_of, is_granted, is_guarded_against, is_used};
+ghost use Rattle.std.specs.Prelude.{◌≡◌, ◌<◌, ◌≤◌, [], IfOk, OnOk, OnErr, false, if◌then◌else◌, length, map, slice_index_or, slice_set};
+ghost use Rattle.iso_locklist.specs.Places.{IsLimited, IsSameLimits, all_taken, cancelled, each_line, edges_in, is_covered, is_grantable_in, line_at, need_of, released, room_for, taken, wait_in, without};
+ghost use Rattle.iso_locklist.specs.declared.places.Place.{Place as Entry};
+ghost use Rattle.iso_queue.specs.Lines.{asked, claimed, hold_of, is_granted, is_guarded_against, is_used};
 ghost use Rattle.iso_queue.specs.declared.types.Asked.{Asked as Outcome};
+ghost use Rattle.iso_queue.specs.declared.types.Claimed.{Claimed as Answer};
 ghost use Rattle.iso_types.specs.Ids.{name_eq};
 ghost use Rattle.iso_types.specs.declared.value.Name.{Name as Other};
 ghost use Rattle.iso_types.specs.Head.{lock_share, lock_slots};
 
 use crate::covering::{index_tables, table_of};
-use crate::places::{Place, ask, find_place, find_wait, need, queue_of, release_at};
+use crate::places::{Part, Place, ask, claim_all, end_at, find_place, find_wait, need, queue_of};
 use crate::room::{LockFault, Room, room_in};
 use iso_modes::{Mode, Term, covers};
-use iso_queue::{Asked, Hold};
+use iso_queue::{Asked, Claimed, Hold};
 use iso_types::{Conn, Edges, Head, Items, Memory, Name, TableId};
 use std::alloc::Global;
 use std::marker::Model;
@@ -123,7 +125,7 @@ impl LockList {
         }
     }
 
-    /// The name and the target of the connection's wait. Its cost is that of a look at each name.
+    /// The name and the target of the connection's wait. Its cost is the number of names and of all who await them.
     pub fn waits(&self, conn: Conn) -> Option<(Name, Mode)>
         ensures { result ≡ wait_in self.now.places conn }
     {
@@ -133,7 +135,8 @@ impl LockList {
     }
 
     /// The connections to which the connection's wait has an edge: each other holder of the name in a mode that does not
-    /// go with the target, and each earlier waiter. Its cost is that of a look at each name.
+    /// go with the target, and each earlier waiter. Its cost is the number of names and of all who await them, and 32 times
+    /// the number of those who hold or await the name.
     pub fn edges(&self, conn: Conn) -> Edges
         ensures { result.0 ≡ edges_in self.now.places conn }
     {
@@ -206,9 +209,61 @@ impl LockList {
         ensures limits { IsSameLimits self.new self.old }
     {
         if let Some(at) = find_place(&self.places, &name) {
-            let freed = release_at(&mut self.places, at, conn);
-            self.counts[conn.0 as usize] -= freed;
-            self.total -= freed;
+            self.end_at(at, conn, Part::Hold);
+        }
+    }
+
+    /// The connection's hold on each name goes; its wait stays. It takes no memory. Its cost is the number of names and
+    /// of all who hold or await them.
+    pub fn release_all(&mut self, conn: Conn)
+        requires { conn.0 < 32 }
+        ensures lines { (n : Other) → line_at self.new.places n ≡ released (line_at self.old.places n) conn }
+        ensures limits { IsSameLimits self.new self.old }
+    {
+        self.end_all(conn, Part::Hold);
+    }
+
+    /// The connection's wait goes, on whatever name it waits; its holds stay. It takes no memory. Its cost is the number
+    /// of names and of all who hold or await them.
+    pub fn cancel(&mut self, conn: Conn)
+        requires { conn.0 < 32 }
+        ensures lines { (n : Other) → line_at self.new.places n ≡ cancelled (line_at self.old.places n) conn }
+        ensures limits { IsSameLimits self.new self.old }
+    {
+        self.end_all(conn, Part::Wait);
+    }
+
+    /// Grants the connection's wait where it has no edge, with what the connection held before; else nothing changes.
+    /// `NotYet`: the wait has an edge, or the connection does not wait. It takes no memory. Its cost is the number of
+    /// names and of all who await them, and of those who hold the name on which it waits.
+    pub fn claim(&mut self, conn: Conn) -> Claimed
+        ensures answer { result ≡ (if is_grantable_in self.old.places conn then Answer.Granted else Answer.NotYet) }
+        ensures lines { (n : Other) → line_at self.new.places n ≡ claimed (line_at self.old.places n) conn }
+        ensures limits { IsSameLimits self.new self.old }
+    {
+        claim_all(&mut self.places, conn)
+    }
+
+    /// The part of the connection goes from the line at this place.
+    fn end_at(&mut self, at: usize, conn: Conn, part: Part)
+        requires conn { conn.0 < 32 }
+        requires at { at < length self.old.places }
+        ensures places { (p : Entry) → p ≡ slice_index_or self.old.places at p → self.new.places ≡ slice_set self.old.places at (record { name = p.name; queue = without part conn p.queue }) }
+        ensures limits { IsSameLimits self.new self.old }
+    {
+        let freed = end_at(&mut self.places, at, conn, part);
+        self.counts[conn.0 as usize] -= freed;
+        self.total -= freed;
+    }
+
+    /// The part of the connection goes from each line.
+    fn end_all(&mut self, conn: Conn, part: Part)
+        requires { conn.0 < 32 }
+        ensures places { self.new.places ≡ each_line (without part conn) self.old.places }
+        ensures limits { IsSameLimits self.new self.old }
+    {
+        for at in 0..self.places.len() {
+            self.end_at(at, conn, part);
         }
     }
 }

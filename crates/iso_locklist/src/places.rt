@@ -1,13 +1,14 @@
-ghost use Rattle.std.specs.Prelude.{◌≡◌, ◌+◌, slice_set, ◌<◌, length, slice_index_or, IfSome, IfNone, IfOk, OnOk, OnErr, if◌then◌else◌};
+ghost use Rattle.std.specs.Prelude.{◌≡◌, ◌+◌, ◌||◌, slice_set, ◌<◌, length, slice_index_or, IfSome, IfNone, IfOk, OnOk, OnErr, if◌then◌else◌};
 ghost use Rattle.std.specs.Option.{option_copied};
-ghost use Rattle.iso_locklist.specs.Places.{IsAbsent, IsPlaceOf, awaited, line_at, need_of, nobody, one, released, updated};
+ghost use Rattle.iso_locklist.specs.Places.{IsAbsent, IsPlaceOf, awaited, each_line, is_grantable_in, line_at, need_of, nobody, one, updated, without};
 ghost use Rattle.iso_locklist.specs.declared.places.Place.{Place as Entry};
-ghost use Rattle.iso_queue.specs.Lines.{asked, is_granted, is_touched};
+ghost use Rattle.iso_queue.specs.Lines.{asked, claimed, is_grantable, is_granted, is_touched};
 ghost use Rattle.iso_queue.specs.declared.types.Asked.{Asked as Outcome};
+ghost use Rattle.iso_queue.specs.declared.types.Claimed.{Claimed as Answer};
 ghost use Rattle.iso_types.specs.Ids.{name_eq};
 
 use iso_modes::{Mode, Term};
-use iso_queue::{Asked, Queue};
+use iso_queue::{Asked, Claimed, Queue};
 use iso_types::{Conn, Memory, Name};
 use std::alloc::Global;
 
@@ -16,6 +17,13 @@ use std::alloc::Global;
 pub struct Place {
     pub name: Name,
     pub queue: Queue,
+}
+
+/// What a connection has at a name.
+#[derive(Clone, Copy)]
+pub enum Part {
+    Hold,
+    Wait,
 }
 
 #[tactic(auto, unfolding(iso_types::specs::Ids::name_eq, iso_types::specs::Value::value_eq))]
@@ -112,22 +120,58 @@ fn freed(before: bool, after: bool) -> u32
     if before && !after { 1 } else { 0 }
 }
 
-/// The connection's hold goes; the result is the slots that it gives back.
-fn release_in(queue: &mut Queue, conn: Conn) -> u32
-    ensures line { queue.new ≡ released queue.old conn }
-    ensures freed { one (is_touched queue.old conn) ≡ result + one (is_touched (released queue.old conn) conn) }
+/// The part of the connection goes.
+fn end_part(queue: &mut Queue, conn: Conn, part: Part)
+    ensures { queue.new ≡ without part conn queue.old }
+{
+    match part {
+        Part::Hold => queue.release(conn),
+        Part::Wait => queue.cancel(conn),
+    }
+}
+
+/// The part of the connection goes; the result is the slots that it gives back.
+fn end_in(queue: &mut Queue, conn: Conn, part: Part) -> u32
+    ensures line { queue.new ≡ without part conn queue.old }
+    ensures freed { one (is_touched queue.old conn) ≡ result + one (is_touched (without part conn queue.old) conn) }
 {
     let before = queue.touches(conn);
-    queue.release(conn);
+    end_part(queue, conn, part);
     let after = queue.touches(conn);
     freed(before, after)
 }
 
 /// The same in the queue of a place.
-pub fn release_at(places: &mut Vec<Place>, at: usize, conn: Conn) -> u32
+pub fn end_at(places: &mut Vec<Place>, at: usize, conn: Conn, part: Part) -> u32
     requires { at < length places.old.items }
-    ensures places { (p : Entry) → p ≡ slice_index_or places.old.items at p → places.new.items ≡ slice_set places.old.items at (record { name = p.name; queue = released p.queue conn }) }
-    ensures freed { (p : Entry) → p ≡ slice_index_or places.old.items at p → one (is_touched p.queue conn) ≡ result + one (is_touched (released p.queue conn) conn) }
+    ensures places { (p : Entry) → p ≡ slice_index_or places.old.items at p → places.new.items ≡ slice_set places.old.items at (record { name = p.name; queue = without part conn p.queue }) }
+    ensures freed { (p : Entry) → p ≡ slice_index_or places.old.items at p → one (is_touched p.queue conn) ≡ result + one (is_touched (without part conn p.queue) conn) }
 {
-    release_in(&mut places[at].queue, conn)
+    end_in(&mut places[at].queue, conn, part)
+}
+
+/// Grants the connection's wait in the queue of a place, where it has no edge; the result is whether it was granted, or
+/// one before.
+fn claim_at(places: &mut Vec<Place>, at: usize, conn: Conn, before: bool) -> bool
+    requires { at < length places.old.items }
+    ensures answer { (p : Entry) → p ≡ slice_index_or places.old.items at p → result ≡ (is_grantable p.queue conn || before) }
+    ensures places { (p : Entry) → p ≡ slice_index_or places.old.items at p → places.new.items ≡ slice_set places.old.items at (record { name = p.name; queue = claimed p.queue conn }) }
+{
+    places[at].queue.claim(conn) == Claimed::Granted || before
+}
+
+/// Grants the connection's wait where it has no edge.
+pub fn claim_all(places: &mut Vec<Place>, conn: Conn) -> Claimed
+    ensures answer { result ≡ (if is_grantable_in places.old.items conn then Answer.Granted else Answer.NotYet) }
+    ensures places { places.new.items ≡ each_line (λ q. claimed q conn) places.old.items }
+{
+    let mut granted = false;
+    for at in 0..places.len() {
+        granted = claim_at(places, at, conn, granted);
+    }
+    if granted {
+        Claimed::Granted
+    } else {
+        Claimed::NotYet
+    }
 }

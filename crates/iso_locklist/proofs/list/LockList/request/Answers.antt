@@ -2,7 +2,7 @@ use Rattle.std.proofs.Common.{◌≡◌, ◌∙◌, ◌+◌, List, ap, get_or}
 use Rattle.std.specs.Prelude.{if◌then◌else◌}
 use Rattle.iso_locklist.specs.Places.{Ledger, line_at, need_of}
 use Rattle.iso_locklist.specs.declared.places.Place.{Place}
-use Rattle.iso_locklist.proofs.Counts.{counted, needed}
+use Rattle.iso_locklist.proofs.Counts.{counted, moved_name, needed}
 use Rattle.iso_locklist.proofs.Touched.{asked_other, asked_own}
 use Rattle.iso_locklist.proofs.Updates.{line_at_other, line_at_updated}
 use Rattle.iso_queue.specs.Lines.{asked, is_touched}
@@ -14,9 +14,10 @@ invariant_of-self-2 c =
     let need : c.need-need.result ≡ need_of c.self.inside.places.items c.args.conn c.args.name =
     c.need-need.ensures ∙ ap (λ (ps : List Place). need_of ps c.args.conn c.args.name) c.deref.ensures.value in
     rw c.in-Ok.ensures.places
-    (counted c.self.inside.places.items c.args.name (asked line c.args.conn c.args.mode c.args.term) c.self.inside.counts c.self.inside.total c.args.conn.0
+    (counted c.self.inside.places.items _ line (asked line c.args.conn c.args.mode c.args.term) c.self.inside.counts c.self.inside.total c.args.conn.0
     (get_or c.self.inside.counts c.args.conn.0 0 + c.need-need.result) (c.self.inside.total + c.need-need.result) c.self.invariant
-    (λ d ne. asked_other line c.args.conn c.args.mode c.args.term d ne) c.requires
+    (moved_name c.self.inside.places.items c.args.name (asked line c.args.conn c.args.mode c.args.term) c.args.conn.0
+    (λ d ne. asked_other line c.args.conn c.args.mode c.args.term d ne)) c.requires
     (needed (is_touched line c.args.conn) (is_touched (asked line c.args.conn c.args.mode c.args.term) c.args.conn) c.need-need.result
     (get_or c.self.inside.counts c.args.conn.0 0) need (asked_own line c.args.conn c.args.mode c.args.term))
     (needed (is_touched line c.args.conn) (is_touched (asked line c.args.conn c.args.mode c.args.term) c.args.conn) c.need-need.result

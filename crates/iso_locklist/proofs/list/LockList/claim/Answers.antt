@@ -1,0 +1,19 @@
+use Rattle.std.proofs.Common.{ap, refl, sym, subst, ◌∙◌, List}
+use Rattle.iso_locklist.specs.Places.{IsCounted, Ledger, line_at}
+use Rattle.iso_locklist.specs.declared.places.Place.{Place}
+use Rattle.iso_locklist.proofs.Counts.{counted_each}
+use Rattle.iso_locklist.proofs.Touched.{claimed_same}
+use Rattle.iso_locklist.proofs.Updates.{line_at_each}
+use Rattle.iso_queue.specs.Lines.{Line, claimed}
+use Rattle.iso_locklist.proofs.list.LockList.claim.Goals as goal
+
+pub invariant_of-self : goal.invariant_of-self
+invariant_of-self c =
+    subst (λ (ps : List Place). IsCounted ps c.self.inside.counts c.self.inside.total) (sym c.claim_all.ensures.places)
+    (counted_each (λ (q : Line). claimed q c.args.conn) c.self.inside.places.items c.self.inside.counts c.self.inside.total c.self.invariant
+    (λ q d. claimed_same q c.args.conn d))
+
+pub returns-clause-lines : goal.returns-clause-lines
+returns-clause-lines c = λ n.
+    ap (λ (ps : List Place). line_at ps n) c.claim_all.ensures.places ∙ line_at_each (λ (q : Line). claimed q c.args.conn) c.self.inside.places.items n refl
+    ∙ ap (λ (l : Ledger). claimed (line_at l.places n) c.args.conn) c.self.view_is
