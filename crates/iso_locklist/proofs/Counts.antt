@@ -1,11 +1,11 @@
 -- The counts after one name's line has changed.
-use Rattle.std.proofs.Common.{◌≡◌, ◌<◌, ◌≤◌, ◌+◌, ◌-◌, ◌≢◌, ℕ, zero, suc, Bool, true, false, List, [], ◌∷◌, length, set, get_or, replicate, refl, ap, sym, ◌∙◌, subst, arith, get_or-set_other, get_or-set_same}
-use Rattle.std.specs.Prelude.{if◌then◌else◌, count_by}
+use Rattle.std.proofs.Common.{◌≡◌, ◌<◌, ◌≤◌, ◌+◌, ◌-◌, ℕ, zero, suc, Bool, true, false, List, [], ◌∷◌, length, set, get_or, replicate, refl, ap, sym, ◌∙◌, subst, arith, get_or-set_other, get_or-set_same}
+use Rattle.std.specs.Prelude.{if◌then◌else◌}
 use Rattle.std.proofs.Math.ListN.{length-set}
 use Rattle.std.proofs.lemmas.List.{get_or-replicate}
 use Rattle.std.proofs.lemmas.Bool.{eqb-true, eqb-false}
 use Rattle.std.proofs.lemmas.List.Sums.{sum_by-cons, sum_by-set}
-use Rattle.iso_locklist.specs.Places.{IsCounted, all_taken, each_line, line_at, nobody, one, taken, taken_below, updated}
+use Rattle.iso_locklist.specs.Places.{IsCounted, all_taken, each_line, line_at, one, taken, taken_below, updated}
 use Rattle.iso_locklist.specs.declared.places.Place.{Place}
 use Rattle.iso_queue.specs.Lines.{Line, is_touched}
 use Rattle.iso_types.specs.Ids.{conn_eq, name_eq}

@@ -1,12 +1,11 @@
 -- A part of a connection goes from one line, or from each.
 use Rattle.std.proofs.Common.{◌≡◌, ◌<◌, ◌≤◌, ◌+◌, ◌-◌, ℕ, Bool, true, false, ◌||◌, List, [], ◌∷◌, ◌++◌, length, map, set, take, drop, get_or, refl, ap, sym, subst, ◌∙◌, arith}
 use Rattle.std.specs.List.{list_any}
-use Rattle.std.specs.Prelude.{if◌then◌else◌}
 use Rattle.std.proofs.Math.Seq.{drop-append_seam}
 use Rattle.std.proofs.lemmas.List.{length-map, get_or_default, get_or-drop, length-drop, length-take-le, take_more}
 use Rattle.std.proofs.lemmas.List.Edits.{map_over_more}
 use Rattle.std.proofs.lemmas.List.Folds.{list_any-append}
-use Rattle.iso_locklist.specs.Places.{IsCounted, each_line, is_grantable_in, nobody, one, taken, without}
+use Rattle.iso_locklist.specs.Places.{IsCounted, each_line, is_grantable_in, nobody, one, without}
 use Rattle.iso_locklist.specs.declared.places.Part.{Part}
 use Rattle.iso_locklist.specs.declared.places.Place.{Place}
 use Rattle.iso_locklist.proofs.Counts.{Moved, counted_less, freed_le, freed_le_all, moved_at}

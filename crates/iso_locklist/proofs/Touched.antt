@@ -9,7 +9,6 @@ use Rattle.iso_modes.specs.declared.Mode.{Mode}
 use Rattle.iso_modes.specs.declared.Term.{Term}
 use Rattle.iso_locklist.specs.Places.{cancelled, one, released, without}
 use Rattle.iso_locklist.specs.declared.places.Part.{Part}
-use Rattle.iso_locklist.specs.declared.places.Part.TheVariants.{Hold as TheHold, Wait as TheWait}
 use Rattle.iso_queue.specs.Lines.{Line, asked, claimed, granted, is_granted, is_holder, is_touched, is_waiter, queued, raised, unheld, unqueued, wait_for, waiter_of, has_edge, taken_in}
 use Rattle.iso_queue.specs.declared.types.Hold.{Hold}
 use Rattle.iso_queue.specs.declared.types.Waiter.{Waiter}

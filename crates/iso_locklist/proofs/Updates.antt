@@ -1,13 +1,12 @@
 -- A list of places with one name's line put in.
-use Rattle.std.proofs.Common.{◌≡◌, ◌<◌, ◌≤◌, ◌+◌, ℕ, suc, Bool, true, false, not, ◌&&◌, ◌||◌, List, [], ◌∷◌, ◌++◌, length, take, drop, get_or, refl, ap, sym, subst, ◌∙◌, arith, append_assoc, add-one, drop-cons}
-use Rattle.std.specs.Prelude.{if◌then◌else◌, slice_set, count_by}
-use Rattle.std.proofs.lemmas.List.{set_split, take_more, take_all, drop_all, append-nil, get_or_default}
-use Rattle.iso_locklist.specs.Places.{IsAbsent, IsPlaceOf, each_line, line_at, nobody, taken, updated}
+use Rattle.std.proofs.Common.{◌≡◌, ◌<◌, ◌≤◌, ◌+◌, ℕ, Bool, true, false, List, [], ◌∷◌, ◌++◌, length, take, drop, get_or, refl, ap, sym, subst, ◌∙◌, append_assoc, add-one, drop-cons}
+use Rattle.std.specs.Prelude.{slice_set}
+use Rattle.std.proofs.lemmas.List.{set_split, take_more, take_all, drop_all, get_or_default}
+use Rattle.iso_locklist.specs.Places.{IsAbsent, IsPlaceOf, each_line, line_at, nobody, updated}
 use Rattle.iso_locklist.specs.declared.places.Place.{Place}
 use Rattle.iso_locklist.proofs.Names.{name_same, name_like}
-use Rattle.iso_queue.specs.Lines.{Line, is_touched}
+use Rattle.iso_queue.specs.Lines.{Line}
 use Rattle.iso_types.specs.Ids.{name_eq}
-use Rattle.iso_types.specs.declared.value.Conn.{Conn}
 use Rattle.iso_types.specs.declared.value.Name.{Name}
 
 updated_here : (p : Place) (ps : List Place) (n : Name) (q : Line) → name_eq p.name n ≡ true → updated (p ∷ ps) n q ≡ record { name = p.name; queue = q } ∷ ps

@@ -1,18 +1,36 @@
 use crate::{LockFault, LockList, Room};
 use iso_modes::{Mode, Term};
-use iso_queue::Asked;
-use iso_types::{Config, Conn, Head, Items, Name, Rid, TableId};
+use iso_queue::{Asked, Claimed};
+use iso_types::{
+    Config, Conn, Head, IndexDef, IndexId, Items, Memory, Name, Rid, TableId, Text, Value,
+};
+use std::alloc::Global;
 use std::test::Fail;
 
 const A: Conn = Conn(0);
 
 const B: Conn = Conn(1);
 
+const C: Conn = Conn(2);
+
 const TABLE: TableId = TableId(0);
 
-#[test]
-fn stops_at_the_share(rt: HostRuntime) -> Result<(), Fail> {
-    let head = Head {
+const OTHER: TableId = TableId(1);
+
+const INDEX: IndexId = IndexId(0);
+
+/// A head with one index, of the first table.
+fn head(alloc: Global) -> Result<Head, Memory> {
+    let mut indexes = Items::new(alloc);
+    if let Some(name) = Text::new(b"I") {
+        indexes.push(IndexDef {
+            name,
+            table: TABLE,
+            column: 0,
+            unique: false,
+        })?;
+    }
+    Ok(Head {
         config: Config {
             cur_commit: true,
             locklist: 4,
@@ -20,12 +38,25 @@ fn stops_at_the_share(rt: HostRuntime) -> Result<(), Fail> {
             logmax: 1000,
             window: 100,
         },
-        tables: Items::new(rt.alloc()),
-        indexes: Items::new(rt.alloc()),
-        rows: Items::new(rt.alloc()),
-        conns: Items::new(rt.alloc()),
-    };
-    let Ok(mut locks) = LockList::new(rt.alloc(), &head) else {
+        tables: Items::new(alloc),
+        indexes,
+        rows: Items::new(alloc),
+        conns: Items::new(alloc),
+    })
+}
+
+/// Room for 12 names of one connection, and 128 names of all.
+fn lock_list(alloc: Global) -> Result<LockList, Memory> {
+    let head = head(alloc)?;
+    if head.config.locklist > 4096 || head.config.maxlocks > 100 {
+        return Err(Memory);
+    }
+    LockList::new(alloc, &head)
+}
+
+#[test]
+fn stops_at_the_share(rt: HostRuntime) -> Result<(), Fail> {
+    let Ok(mut locks) = lock_list(rt.alloc()) else {
         return Ok(());
     };
     for rid in 0..12u32 {
@@ -49,5 +80,70 @@ fn stops_at_the_share(rt: HostRuntime) -> Result<(), Fail> {
         matches!(locks.held(A, Name::Row(TABLE, Rid(1))), Some(hold) if hold.mode == Mode::Ns)
     );
     assert!(rt; !locks.others_hold(B, Name::Row(TABLE, Rid(1))));
+    Ok(())
+}
+
+/// Requests in this order, each Kept, and says which were granted.
+fn requests(locks: &mut LockList, all: &[(Conn, Name, Mode)]) -> Result<u32, LockFault> {
+    let mut granted: u32 = 0;
+    for (conn, name, mode) in all {
+        if conn.0 < 32 && locks.request(*conn, *name, *mode, Term::Kept)? == Asked::Granted {
+            granted = granted.wrapping_add(1);
+        }
+    }
+    Ok(granted)
+}
+
+#[test]
+fn claims_in_order(rt: HostRuntime) -> Result<(), Fail> {
+    let row = Name::Row(TABLE, Rid(7));
+    let Ok(mut locks) = lock_list(rt.alloc()) else {
+        return Ok(());
+    };
+    let held = [
+        (A, Name::End(INDEX), Mode::S),
+        (A, row, Mode::Ns),
+        (B, row, Mode::U),
+    ];
+    assert!(rt; requests(&mut locks, &held) == Ok(3));
+    assert!(rt; requests(&mut locks, &[(B, row, Mode::X), (C, row, Mode::Ns)]) == Ok(0));
+    assert!(rt; locks.waits(B) == Some((row, Mode::X)) && locks.waits(A).is_none());
+    for (conn, edges) in [(A, 0), (B, 0b1), (C, 0b10)] {
+        assert!(rt; locks.edges(conn).0 == edges);
+    }
+    assert!(rt; locks.count(A) == 2 && locks.count(B) == 1 && locks.total() == 4);
+    locks.release_all(A);
+    assert!(rt; locks.count(A) == 0 && !locks.in_use(Name::End(INDEX)));
+    assert!(rt; locks.claim(C) == Claimed::NotYet && locks.claim(B) == Claimed::Granted);
+    assert!(rt; locks.claim(C) == Claimed::NotYet && locks.claim(A) == Claimed::NotYet);
+    assert!(rt; matches!(locks.held(B, row), Some(hold) if hold.mode == Mode::X));
+    locks.cancel(C);
+    assert!(rt; locks.waits(C).is_none() && locks.count(C) == 0 && locks.total() == 1);
+    Ok(())
+}
+
+#[test]
+fn covers_by_the_own_table_lock(rt: HostRuntime) -> Result<(), Fail> {
+    let Ok(mut locks) = lock_list(rt.alloc()) else {
+        return Ok(());
+    };
+    let held = [
+        (A, Name::Table(TABLE), Mode::S),
+        (B, Name::Table(OTHER), Mode::X),
+    ];
+    assert!(rt; requests(&mut locks, &held) == Ok(2));
+    let cases = [
+        (A, Name::Row(TABLE, Rid(0)), Mode::Ns, true),
+        (A, Name::Key(INDEX, Value::Int(30)), Mode::S, true),
+        (A, Name::End(INDEX), Mode::U, false),
+        (A, Name::Row(OTHER, Rid(0)), Mode::Ns, false),
+        (A, Name::End(IndexId(1)), Mode::S, false),
+        (A, Name::Table(TABLE), Mode::S, false),
+        (B, Name::Key(INDEX, Value::Null), Mode::S, false),
+        (B, Name::Row(OTHER, Rid(0)), Mode::X, true),
+    ];
+    for (conn, name, mode, covered) in cases {
+        assert!(rt; locks.covered(conn, name, mode) == covered);
+    }
     Ok(())
 }

@@ -1,6 +1,5 @@
 use Rattle.std.proofs.Common.{◌≡◌, ◌<◌, ◌||◌, ◌∙◌, ap, get_or, length, arith, sym, Bool}
 use Rattle.std.proofs.lemmas.List.{get_or_default}
-use Rattle.iso_locklist.specs.declared.places.Place.{Place}
 use Rattle.iso_locklist.proofs.Parts.{blank, each_more, grantable_more, seam_get, seam_len, with_line}
 use Rattle.iso_queue.specs.Lines.{Line, claimed, is_grantable}
 use Rattle.iso_locklist.proofs.places.claim_all.Goals as goal

@@ -1,4 +1,4 @@
-use Rattle.std.proofs.Common.{◌≡◌, ◌<◌, ◌∙◌, List, length, ap, sym, get_or, subst}
+use Rattle.std.proofs.Common.{◌≡◌, ◌<◌, ◌∙◌, List, length, ap, get_or, subst}
 use Rattle.iso_locklist.specs.Places.{IsPlaceOf, Ledger, line_at, released}
 use Rattle.iso_locklist.specs.declared.places.Place.{Place}
 use Rattle.iso_locklist.proofs.Updates.{line_at_other, line_at_updated, put_at}

@@ -1,5 +1,4 @@
 use Rattle.std.proofs.Common.{◌≡◌, ◌∙◌, ◌+◌, List, ap, get_or}
-use Rattle.std.specs.Prelude.{if◌then◌else◌}
 use Rattle.iso_locklist.specs.Places.{Ledger, line_at, need_of}
 use Rattle.iso_locklist.specs.declared.places.Place.{Place}
 use Rattle.iso_locklist.proofs.Counts.{counted, moved_name, needed}
