@@ -3,3 +3,4 @@ pub mod Updates
 pub mod Touched
 pub mod Counts
 pub mod Parts
+pub mod Apart

@@ -2,7 +2,7 @@
 -- Db2 LUW, 'locklist' and 'maxlocks' configuration parameters; the unit of a slot is this project's own.
 use Rattle.std.specs.List.{list_any}
 use Rattle.std.specs.Option.{option_and_then, option_map, option_map_or}
-use Rattle.std.specs.Prelude.{◌≡◌, ◌<◌, ◌++◌, length, slice_get, slice_set, slice_index, map, ℕ, zero, suc, ◌+◌, Bool, false, List, [], ◌∷◌, if◌then◌else◌, nat_lt, count_by, find, Option, None, Some, Result, Ok, Err}
+use Rattle.std.specs.Prelude.{◌≡◌, ◌<◌, ◌++◌, length, slice_get, slice_set, slice_index, map, ℕ, zero, suc, ◌+◌, Bool, true, false, not, ◌&&◌, List, [], ◌∷◌, if◌then◌else◌, nat_lt, count_by, find, Option, None, Some, Result, Ok, Err}
 use Rattle.iso_locklist.specs.declared.places.Part.{Part}
 use Rattle.iso_locklist.specs.declared.places.Part.TheVariants.{Hold, Wait}
 use Rattle.iso_locklist.specs.declared.places.Place.{Place}
@@ -73,6 +73,20 @@ pub record IsCounted (ps : List Place) (counts : List ℕ) (total : ℕ) : Type 
   pub size : length counts ≡ 32
   pub each : (c : ℕ) → c < 32 → slice_index counts c ≡ taken ps (record { 0 = c })
   pub all : total ≡ all_taken ps
+
+-- the names of the places
+abbrev pub names : List Place → List Name
+names ps = map (λ p. p.name) ps
+
+-- no two names are the same
+abbrev pub are_apart : List Name → Bool
+are_apart [] = true
+are_apart (n ∷ ns) = not (list_any (λ m. name_eq m n) ns) && are_apart ns
+
+-- the kept counts are those of the places, and each name has one place
+pub record IsLedger (ps : List Place) (counts : List ℕ) (total : ℕ) : Type 0 where
+  pub counted : IsCounted ps counts total
+  pub apart : are_apart (names ps) ≡ true
 
 -- whether a need of that many more is at its limit: the share first, then the slots
 abbrev pub room_by : ℕ → ℕ → ℕ → ℕ → ℕ → Room

@@ -31,13 +31,13 @@ pub struct LockList {
 }
 
 impl Model for LockList {
-    ghost use Rattle.iso_locklist.specs.Places.{IsCounted, Ledger};
+    ghost use Rattle.iso_locklist.specs.Places.{IsLedger, Ledger};
 
     ghost Value = { Ledger };
 
     ghost view = { λ l. record { places = l.places.items; share = l.share; slots = l.slots; index_tables = l.index_tables } };
 
-    ghost invariant = { λ l. IsCounted l.places.items l.counts l.total };
+    ghost invariant = { λ l. IsLedger l.places.items l.counts l.total };
 }
 
 impl LockList {

@@ -1,6 +1,7 @@
 use Rattle.std.proofs.Common.{ap, refl, sym, subst, ◌∙◌, List}
-use Rattle.iso_locklist.specs.Places.{IsCounted, Ledger, line_at}
+use Rattle.iso_locklist.specs.Places.{IsCounted, Ledger, are_apart, line_at, names}
 use Rattle.iso_locklist.specs.declared.places.Place.{Place}
+use Rattle.iso_locklist.proofs.Apart.{apart_each}
 use Rattle.iso_locklist.proofs.Counts.{counted_each}
 use Rattle.iso_locklist.proofs.Touched.{claimed_same}
 use Rattle.iso_locklist.proofs.Updates.{line_at_each}
@@ -9,9 +10,13 @@ use Rattle.iso_locklist.proofs.list.LockList.claim.Goals as goal
 
 pub invariant_of-self : goal.invariant_of-self
 invariant_of-self c =
-    subst (λ (ps : List Place). IsCounted ps c.self.inside.counts c.self.inside.total) (sym c.claim_all.ensures.places)
-    (counted_each (λ (q : Line). claimed q c.args.conn) c.self.inside.places.items c.self.inside.counts c.self.inside.total c.self.invariant
-    (λ q d. claimed_same q c.args.conn d))
+    record {
+      counted = subst (λ (ps : List Place). IsCounted ps c.self.inside.counts c.self.inside.total) (sym c.claim_all.ensures.places)
+          (counted_each (λ (q : Line). claimed q c.args.conn) c.self.inside.places.items c.self.inside.counts c.self.inside.total c.self.invariant.counted
+          (λ q d. claimed_same q c.args.conn d));
+      apart = ap (λ (ps : List Place). are_apart (names ps)) c.claim_all.ensures.places
+          ∙ apart_each (λ (q : Line). claimed q c.args.conn) c.self.inside.places.items c.self.invariant.apart;
+    }
 
 pub returns-clause-lines : goal.returns-clause-lines
 returns-clause-lines c = λ n.

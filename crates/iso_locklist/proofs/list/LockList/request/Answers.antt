@@ -1,6 +1,7 @@
 use Rattle.std.proofs.Common.{◌≡◌, ◌∙◌, ◌+◌, List, ap, get_or}
 use Rattle.iso_locklist.specs.Places.{Ledger, line_at, need_of}
 use Rattle.iso_locklist.specs.declared.places.Place.{Place}
+use Rattle.iso_locklist.proofs.Apart.{apart_updated}
 use Rattle.iso_locklist.proofs.Counts.{counted, moved_name, needed}
 use Rattle.iso_locklist.proofs.Touched.{asked_other, asked_own}
 use Rattle.iso_locklist.proofs.Updates.{line_at_other, line_at_updated}
@@ -13,14 +14,17 @@ invariant_of-self-2 c =
     let need : c.need-need.result ≡ need_of c.self.inside.places.items c.args.conn c.args.name =
     c.need-need.ensures ∙ ap (λ (ps : List Place). need_of ps c.args.conn c.args.name) c.deref.ensures.value in
     rw c.in-Ok.ensures.places
-    (counted c.self.inside.places.items _ line (asked line c.args.conn c.args.mode c.args.term) c.self.inside.counts c.self.inside.total c.args.conn.0
-    (get_or c.self.inside.counts c.args.conn.0 0 + c.need-need.result) (c.self.inside.total + c.need-need.result) c.self.invariant
-    (moved_name c.self.inside.places.items c.args.name (asked line c.args.conn c.args.mode c.args.term) c.args.conn.0
-    (λ d ne. asked_other line c.args.conn c.args.mode c.args.term d ne)) c.requires
-    (needed (is_touched line c.args.conn) (is_touched (asked line c.args.conn c.args.mode c.args.term) c.args.conn) c.need-need.result
-    (get_or c.self.inside.counts c.args.conn.0 0) need (asked_own line c.args.conn c.args.mode c.args.term))
-    (needed (is_touched line c.args.conn) (is_touched (asked line c.args.conn c.args.mode c.args.term) c.args.conn) c.need-need.result
-    c.self.inside.total need (asked_own line c.args.conn c.args.mode c.args.term)))
+    (record {
+      counted = counted c.self.inside.places.items _ line (asked line c.args.conn c.args.mode c.args.term) c.self.inside.counts c.self.inside.total c.args.conn.0
+          (get_or c.self.inside.counts c.args.conn.0 0 + c.need-need.result) (c.self.inside.total + c.need-need.result) c.self.invariant.counted
+          (moved_name c.self.inside.places.items c.args.name (asked line c.args.conn c.args.mode c.args.term) c.args.conn.0
+          (λ d ne. asked_other line c.args.conn c.args.mode c.args.term d ne)) c.requires
+          (needed (is_touched line c.args.conn) (is_touched (asked line c.args.conn c.args.mode c.args.term) c.args.conn) c.need-need.result
+          (get_or c.self.inside.counts c.args.conn.0 0) need (asked_own line c.args.conn c.args.mode c.args.term))
+          (needed (is_touched line c.args.conn) (is_touched (asked line c.args.conn c.args.mode c.args.term) c.args.conn) c.need-need.result
+          c.self.inside.total need (asked_own line c.args.conn c.args.mode c.args.term));
+      apart = apart_updated c.self.inside.places.items c.args.name (asked line c.args.conn c.args.mode c.args.term) c.self.invariant.apart;
+    })
 
 pub returns-clause-line : goal.returns-clause-line
 returns-clause-line c =
