@@ -4,3 +4,4 @@ pub mod Touched
 pub mod Counts
 pub mod Parts
 pub mod Apart
+pub mod Lists

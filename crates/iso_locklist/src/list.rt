@@ -1,7 +1,11 @@
-ghost use Rattle.std.specs.Prelude.{◌≡◌, ◌<◌, ◌≤◌, [], IfOk, OnOk, OnErr, false, if◌then◌else◌, length, map, slice_index_or, slice_set};
+ghost use Rattle.std.specs.Prelude.{◌≡◌, ◌<◌, ◌≤◌, [], IfOk, OnOk, OnErr, false, if◌then◌else◌, filter, length, map, slice_index_or, slice_set};
+ghost use Rattle.iso_locklist.specs.Lists.{holds_in, named_hold, named_wait, waits_in};
 ghost use Rattle.iso_locklist.specs.Places.{IsLimited, IsSameLimits, all_taken, cancelled, each_line, edges_in, is_covered, is_grantable_in, line_at, need_of, released, room_for, taken, wait_in, without};
 ghost use Rattle.iso_locklist.specs.declared.places.Place.{Place as Entry};
 ghost use Rattle.iso_queue.specs.Lines.{asked, claimed, hold_of, is_granted, is_guarded_against, is_used};
+ghost use Rattle.iso_queue.specs.Locks.{hold_on, others_guard};
+ghost use Rattle.iso_queue.specs.Queues.{queue};
+ghost use Rattle.std.specs.Option.{option_map};
 ghost use Rattle.iso_queue.specs.declared.types.Asked.{Asked as Outcome};
 ghost use Rattle.iso_queue.specs.declared.types.Claimed.{Claimed as Answer};
 ghost use Rattle.iso_types.specs.Ids.{name_eq};
@@ -242,6 +246,17 @@ impl LockList {
         ensures limits { IsSameLimits self.new self.old }
     {
         claim_all(&mut self.places, conn)
+    }
+
+    /// Law: in the lists of the holds and of the waits of all names, those of the name are its holders, and its waiters in
+    /// queue order; the connection's hold on the name, and whether another holds S or NW on it, are those of the lists.
+    pub fn lists_hold_each_name(&self, conn: Conn, name: Name)
+        ensures holds { filter (λ h. name_eq h.name name) (holds_in self.now.places) ≡ map (named_hold name) (line_at self.now.places name).holders }
+        ensures waits { queue (waits_in self.now.places) name ≡ map (named_wait name) (line_at self.now.places name).waiters }
+        ensures hold { hold_on (holds_in self.now.places) conn name ≡ option_map (named_hold name) (hold_of (line_at self.now.places name).holders conn) }
+        ensures guard { others_guard (holds_in self.now.places) conn name ≡ is_guarded_against (line_at self.now.places name).holders conn }
+    {
+        let _ = &self.places;
     }
 
     /// The part of the connection goes from the line at this place.
