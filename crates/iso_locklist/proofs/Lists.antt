@@ -2,23 +2,29 @@
 use Rattle.std.proofs.Common.{◌≡◌, ℕ, Bool, true, false, not, ◌&&◌, ◌||◌, List, [], ◌∷◌, ◌++◌, map, refl, ap, sym, ◌∙◌, subst}
 use Rattle.std.specs.Cmp.Lexicographic.{pointwise}
 use Rattle.std.specs.List.{flat_map, list_any}
-use Rattle.std.specs.Option.{option_map}
+use Rattle.std.specs.Option.{option_map, option_map_or}
 use Rattle.std.specs.Ordering.{int_eq}
 use Rattle.std.specs.Prelude.{nat_eq, filter, find, Option, None, Some}
 use Rattle.std.proofs.lemmas.Bool.{eqb-true}
 use Rattle.std.proofs.lemmas.Bool.Decides.{Decides-int_eq}
 use Rattle.std.proofs.lemmas.List.Elements.{filter-append}
+use Rattle.std.proofs.lemmas.Option.{slice_get-map}
 use Rattle.iso_locklist.specs.Lists.{holds_in, named_hold, named_wait, waits_in}
-use Rattle.iso_locklist.specs.Places.{are_apart, line_at, names, nobody}
+use Rattle.iso_locklist.specs.Places.{Ledger, are_apart, is_covered, is_covered_on, line_at, names, nobody, table_in}
 use Rattle.iso_locklist.specs.declared.places.Place.{Place}
 use Rattle.iso_locklist.proofs.Names.{name_like}
-use Rattle.iso_modes.specs.Modes.{mode_eq}
+use Rattle.iso_modes.specs.Modes.{covers, mode_eq}
+use Rattle.iso_modes.specs.declared.Mode.{Mode}
 use Rattle.iso_modes.specs.declared.Mode.TheVariants.{Nw, S}
 use Rattle.iso_queue.specs.Lines.{Line, hold_of, is_guarded_against}
 use Rattle.iso_queue.specs.Locks as locks
 use Rattle.iso_queue.specs.Queues.{queue}
+use Rattle.iso_queue.specs.declared.types.Hold.{Hold}
+use Rattle.iso_types.specs.Head.{table_of}
 use Rattle.iso_types.specs.Ids.{conn_eq, index_eq, name_eq, rid_eq, table_eq}
 use Rattle.iso_types.specs.Value.{value_eq}
+use Rattle.iso_types.specs.declared.head.Head.{Head}
+use Rattle.iso_types.specs.declared.head.IndexDef.{IndexDef}
 use Rattle.iso_types.specs.declared.value.Conn.{Conn}
 use Rattle.iso_types.specs.declared.value.IndexId.{IndexId}
 use Rattle.iso_types.specs.declared.value.Name.{Name}
@@ -211,3 +217,27 @@ guard_of_name ps c n apart =
     (λ h. moved (not (conn_eq h.conn c)) (name_eq h.name n) (mode_eq h.mode S || mode_eq h.mode Nw))
     ∙ ap (list_any (λ (h : locks.Hold). not (conn_eq h.conn c) && (mode_eq h.mode S || mode_eq h.mode Nw))) (holds_of_name ps n apart)
     ∙ any_map (λ (h : locks.Hold). not (conn_eq h.conn c) && (mode_eq h.mode S || mode_eq h.mode Nw)) (named_hold n) (line_at ps n).holders
+
+-- the table of a name is that of the head whose indexes were kept
+table_like : (head : Head) (n : Name) → table_in (map (λ (d : IndexDef). d.table) head.indexes) n ≡ table_of head n
+table_like head (Table t) = refl
+table_like head (Row t r) = refl
+table_like head (Key i v) = slice_get-map (λ (d : IndexDef). d.table) head.indexes i.0
+table_like head (End i) = slice_get-map (λ (d : IndexDef). d.table) head.indexes i.0
+
+covers_by : (n : Name) (m : Mode) (o : Option Hold) (r : Option locks.Hold) → r ≡ option_map (named_hold n) o
+    → option_map_or (λ (h : Hold). covers h.mode m) o false ≡ option_map_or (λ (a : Mode). covers a m) (option_map (λ (h : locks.Hold). h.mode) r) false
+covers_by n m None r e = rw e refl
+covers_by n m (Some h) r e = rw e refl
+
+covered_on : (ps : List Place) (c : Conn) (m : Mode) → are_apart (names ps) ≡ true → (o : Option TableId)
+    → option_map_or (is_covered_on ps c m) o false ≡ option_map_or (locks.is_covered_on (holds_in ps) c m) o false
+covered_on ps c m apart None = refl
+covered_on ps c m apart (Some t) = covers_by (Table t) m (hold_of (line_at ps (Table t)).holders c) (locks.hold_on (holds_in ps) c (Table t)) (hold_of_name ps c (Table t) apart)
+
+-- what the own table lock covers
+pub covered_of_name : (l : Ledger) (head : Head) (c : Conn) (n : Name) (m : Mode) → are_apart (names l.places) ≡ true
+    → l.index_tables ≡ map (λ (d : IndexDef). d.table) head.indexes → is_covered l c n m ≡ locks.is_covered head (holds_in l.places) c n m
+covered_of_name l head c n m apart e =
+    ap (λ (o : Option TableId). option_map_or (is_covered_on l.places c m) o false) (ap (λ (ts : List TableId). table_in ts n) e ∙ table_like head n)
+    ∙ covered_on l.places c m apart (table_of head n)

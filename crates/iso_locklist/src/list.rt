@@ -4,6 +4,7 @@ ghost use Rattle.iso_locklist.specs.Places.{IsLimited, IsSameLimits, all_taken, 
 ghost use Rattle.iso_locklist.specs.declared.places.Place.{Place as Entry};
 ghost use Rattle.iso_queue.specs.Lines.{asked, claimed, hold_of, is_granted, is_guarded_against, is_used};
 ghost use Rattle.iso_queue.specs.Locks.{hold_on, others_guard};
+ghost use Rattle.iso_queue.specs.Locks as locks;
 ghost use Rattle.iso_queue.specs.Queues.{queue};
 ghost use Rattle.std.specs.Option.{option_map};
 ghost use Rattle.iso_queue.specs.declared.types.Asked.{Asked as Outcome};
@@ -255,6 +256,13 @@ impl LockList {
         ensures waits { queue (waits_in self.now.places) name ≡ map (named_wait name) (line_at self.now.places name).waiters }
         ensures hold { hold_on (holds_in self.now.places) conn name ≡ option_map (named_hold name) (hold_of (line_at self.now.places name).holders conn) }
         ensures guard { others_guard (holds_in self.now.places) conn name ≡ is_guarded_against (line_at self.now.places name).holders conn }
+    {
+        let _ = &self.places;
+    }
+
+    /// Law: a request is covered as in the list of the holds of all names, where the tables of the indexes are the head's.
+    pub fn lists_cover_each_request(&self, head: &Head, conn: Conn, name: Name, mode: Mode)
+        ensures { self.now.index_tables ≡ map (λ d. d.table) head.now.indexes → is_covered self.now conn name mode ≡ locks.is_covered head.now (holds_in self.now.places) conn name mode }
     {
         let _ = &self.places;
     }
