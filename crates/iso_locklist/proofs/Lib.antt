@@ -5,3 +5,4 @@ pub mod Counts
 pub mod Parts
 pub mod Apart
 pub mod Lists
+pub mod Taken

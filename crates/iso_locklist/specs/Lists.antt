@@ -1,11 +1,14 @@
 -- The lock list as one list of the holds, and one of the waits, of all names: the form in which a history's locks are told.
 use Rattle.std.specs.List.{flat_map}
-use Rattle.std.specs.Prelude.{List, map}
+use Rattle.std.specs.Prelude.{◌≤◌, List, count_by, map}
+use Rattle.iso_locklist.specs.Places.{line_at}
 use Rattle.iso_locklist.specs.declared.places.Place.{Place}
 use Rattle.iso_queue.specs.Locks as locks
 use Rattle.iso_queue.specs.Queues as queues
 use Rattle.iso_queue.specs.declared.types.Hold.{Hold}
 use Rattle.iso_queue.specs.declared.types.Waiter.{Waiter}
+use Rattle.iso_types.specs.Ids.{conn_eq}
+use Rattle.iso_types.specs.declared.value.Conn.{Conn}
 use Rattle.iso_types.specs.declared.value.Name.{Name}
 
 -- the hold with its name
@@ -23,3 +26,8 @@ holds_in ps = flat_map (λ p. map (named_hold p.name) p.queue.holders) ps
 -- the waits of all names, those of one name in queue order
 abbrev pub waits_in : List Place → List queues.Wait
 waits_in ps = flat_map (λ p. map (named_wait p.name) p.queue.waiters) ps
+
+-- the connection holds no name twice, and has one wait at most
+pub record IsSingle (ps : List Place) (c : Conn) : Type 0 where
+  pub holds : (n : Name) → count_by (λ h. conn_eq h.conn c) (line_at ps n).holders ≤ 1
+  pub waits : count_by (λ w. conn_eq w.conn c) (waits_in ps) ≤ 1

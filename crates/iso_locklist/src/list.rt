@@ -1,9 +1,10 @@
 ghost use Rattle.std.specs.Prelude.{◌≡◌, ◌<◌, ◌≤◌, [], IfOk, OnOk, OnErr, false, if◌then◌else◌, filter, length, map, slice_index_or, slice_set};
-ghost use Rattle.iso_locklist.specs.Lists.{holds_in, named_hold, named_wait, waits_in};
+ghost use Rattle.iso_locklist.specs.Lists.{IsSingle, holds_in, named_hold, named_wait, waits_in};
 ghost use Rattle.iso_locklist.specs.Places.{IsLimited, IsSameLimits, all_taken, cancelled, each_line, edges_in, is_covered, is_grantable_in, line_at, need_of, released, room_for, taken, wait_in, without};
 ghost use Rattle.iso_locklist.specs.declared.places.Place.{Place as Entry};
 ghost use Rattle.iso_queue.specs.Lines.{asked, claimed, hold_of, is_granted, is_guarded_against, is_used};
 ghost use Rattle.iso_queue.specs.Locks.{hold_on, others_guard};
+ghost use Rattle.iso_queue.specs.Limits as limits;
 ghost use Rattle.iso_queue.specs.Locks as locks;
 ghost use Rattle.iso_queue.specs.Queues.{queue};
 ghost use Rattle.std.specs.Option.{option_map};
@@ -263,6 +264,14 @@ impl LockList {
     /// Law: a request is covered as in the list of the holds of all names, where the tables of the indexes are the head's.
     pub fn lists_cover_each_request(&self, head: &Head, conn: Conn, name: Name, mode: Mode)
         ensures { self.now.index_tables ≡ map (λ d. d.table) head.now.indexes → is_covered self.now conn name mode ≡ locks.is_covered head.now (holds_in self.now.places) conn name mode }
+    {
+        let _ = &self.places;
+    }
+
+    /// Law: where the connection holds no name twice and has one wait at most, its count is the number of its holds in
+    /// the list of all, and of its wait where it does not hold the name.
+    pub fn lists_count_each_name(&self, conn: Conn)
+        ensures { IsSingle self.now.places conn → taken self.now.places conn ≡ limits.taken (holds_in self.now.places) (waits_in self.now.places) conn }
     {
         let _ = &self.places;
     }
