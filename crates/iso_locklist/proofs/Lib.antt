@@ -6,3 +6,4 @@ pub mod Parts
 pub mod Apart
 pub mod Lists
 pub mod Taken
+pub mod Waits

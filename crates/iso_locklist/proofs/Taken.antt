@@ -45,7 +45,7 @@ found_by t x xs false e le ih =
     let less : count_by t xs ≤ 1 = omega (arith, first, le, count_cons t x xs) in
     omega (arith, same, first, ih less, count_cons t x xs)
 
-found : {X : Type 0} (t : X → Bool) (xs : List X) → count_by t xs ≤ 1 → count_by t xs ≡ one (is_some (find t xs))
+pub found : {X : Type 0} (t : X → Bool) (xs : List X) → count_by t xs ≤ 1 → count_by t xs ≡ one (is_some (find t xs))
 found t [] le = refl
 found t (x ∷ xs) le = found_by t x xs (t x) refl le (found t xs)
 
@@ -60,7 +60,7 @@ absent_by t x xs false e none ih =
     let rest : count_by t xs ≡ 0 = omega (arith, first, none, count_cons t x xs) in
     rw e (ih rest)
 
-absent : {X : Type 0} (t : X → Bool) (xs : List X) → count_by t xs ≡ 0 → is_some (find t xs) ≡ false
+pub absent : {X : Type 0} (t : X → Bool) (xs : List X) → count_by t xs ≡ 0 → is_some (find t xs) ≡ false
 absent t [] none = refl
 absent t (x ∷ xs) none = absent_by t x xs (t x) refl none (absent t xs)
 
@@ -135,7 +135,7 @@ holds_count ps (r ∷ rs) c single all =
       holds_count ps rs c single all.1,
     )
 
-waits_more : (r : Place) (rs : List Place) (c : Conn) → count_by (λ (x : queues.Wait). conn_eq x.conn c) (waits_in (r ∷ rs))
+pub waits_more : (r : Place) (rs : List Place) (c : Conn) → count_by (λ (x : queues.Wait). conn_eq x.conn c) (waits_in (r ∷ rs))
     ≡ count_by (λ (w : Waiter). conn_eq w.conn c) r.queue.waiters + count_by (λ (x : queues.Wait). conn_eq x.conn c) (waits_in rs)
 waits_more r rs c =
     count_append (λ (x : queues.Wait). conn_eq x.conn c) (map (named_wait r.name) r.queue.waiters) (waits_in rs)
@@ -153,7 +153,7 @@ none_waits (r ∷ rs) c none =
 abbrev pub wait_counts : List locks.Hold → Conn → Option queues.Wait → ℕ
 wait_counts holds c o = option_map_or (λ x. if locks.is_held holds c x.name then 0 else 1) o 0
 
-wait_is : (r : Place) (rs : List Place) (c : Conn) (o : Option Waiter) → waiter_of r.queue.waiters c ≡ o
+pub wait_is : (r : Place) (rs : List Place) (c : Conn) (o : Option Waiter) → waiter_of r.queue.waiters c ≡ o
     → queues.wait_of (waits_in (r ∷ rs)) c ≡ option_or (option_map (named_wait r.name) o) (queues.wait_of (waits_in rs) c)
 wait_is r rs c o e =
     find-append (λ (x : queues.Wait). conn_eq x.conn c) (map (named_wait r.name) r.queue.waiters) (waits_in rs)

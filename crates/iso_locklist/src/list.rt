@@ -6,7 +6,7 @@ ghost use Rattle.iso_queue.specs.Lines.{asked, claimed, hold_of, is_granted, is_
 ghost use Rattle.iso_queue.specs.Locks.{hold_on, others_guard};
 ghost use Rattle.iso_queue.specs.Limits as limits;
 ghost use Rattle.iso_queue.specs.Locks as locks;
-ghost use Rattle.iso_queue.specs.Queues.{queue};
+ghost use Rattle.iso_queue.specs.Queues.{queue, wait_of};
 ghost use Rattle.std.specs.Option.{option_map};
 ghost use Rattle.iso_queue.specs.declared.types.Asked.{Asked as Outcome};
 ghost use Rattle.iso_queue.specs.declared.types.Claimed.{Claimed as Answer};
@@ -272,6 +272,13 @@ impl LockList {
     /// the list of all, and of its wait where it does not hold the name.
     pub fn lists_count_each_name(&self, conn: Conn)
         ensures { IsSingle self.now.places conn → taken self.now.places conn ≡ limits.taken (holds_in self.now.places) (waits_in self.now.places) conn }
+    {
+        let _ = &self.places;
+    }
+
+    /// Law: the wait that is told is the connection's in the list of the waits of all names.
+    pub fn lists_tell_each_wait(&self, conn: Conn)
+        ensures { wait_in self.now.places conn ≡ option_map (λ x. (x.name, x.target)) (wait_of (waits_in self.now.places) conn) }
     {
         let _ = &self.places;
     }
