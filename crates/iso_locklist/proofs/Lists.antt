@@ -126,12 +126,12 @@ module _ {X Y : Type 0} (get : Line → List X) (g : Name → X → Y) (name_of 
   left_by : (n : Name) (y : Y) (ys : List Y) → name_eq (name_of y) n ≡ false → of_name n (y ∷ ys) ≡ of_name n ys
   left_by n y ys e = rw e refl
 
-  kept : (n m : Name) (xs : List X) → name_eq m n ≡ true → of_name n (map (g m) xs) ≡ map (g m) xs
+  pub kept : (n m : Name) (xs : List X) → name_eq m n ≡ true → of_name n (map (g m) xs) ≡ map (g m) xs
   kept n m [] e = refl
   kept n m (x ∷ xs) e =
       kept_by n (g m x) (map (g m) xs) (ap (λ (k : Name). name_eq k n) (named m x) ∙ e) ∙ ap (λ (ys : List Y). g m x ∷ ys) (kept n m xs e)
 
-  left : (n m : Name) (xs : List X) → name_eq m n ≡ false → of_name n (map (g m) xs) ≡ []
+  pub left : (n m : Name) (xs : List X) → name_eq m n ≡ false → of_name n (map (g m) xs) ≡ []
   left n m [] e = refl
   left n m (x ∷ xs) e = left_by n (g m x) (map (g m) xs) (ap (λ (k : Name). name_eq k n) (named m x) ∙ e) ∙ left n m xs e
 
