@@ -3,7 +3,6 @@ use Rattle.std.proofs.Common.{◌≡◌, ℕ, Bool, true, false, not, ◌&&◌, 
 use Rattle.std.specs.Cmp.Lexicographic.{pointwise}
 use Rattle.std.specs.List.{flat_map, list_any}
 use Rattle.std.specs.Option.{option_map, option_map_or}
-use Rattle.std.specs.Ordering.{int_eq}
 use Rattle.std.specs.Prelude.{nat_eq, filter, find, Option, None, Some}
 use Rattle.std.proofs.lemmas.Bool.{eqb-true}
 use Rattle.std.proofs.lemmas.Bool.Decides.{Decides-int_eq}
@@ -12,7 +11,6 @@ use Rattle.std.proofs.lemmas.Option.{slice_get-map}
 use Rattle.iso_locklist.specs.Lists.{holds_in, named_hold, named_wait, waits_in}
 use Rattle.iso_locklist.specs.Places.{Ledger, are_apart, is_covered, is_covered_on, line_at, names, nobody, table_in}
 use Rattle.iso_locklist.specs.declared.places.Place.{Place}
-use Rattle.iso_locklist.proofs.Names.{name_like}
 use Rattle.iso_modes.specs.Modes.{covers, mode_eq}
 use Rattle.iso_modes.specs.declared.Mode.{Mode}
 use Rattle.iso_modes.specs.declared.Mode.TheVariants.{Nw, S}

@@ -1,22 +1,20 @@
 -- The wait of a connection, and whether it has an edge, in the lists of holds and waits.
-use Rattle.std.proofs.Common.{◌≡◌, ◌≤◌, ◌+◌, ℕ, zero, suc, Bool, true, false, not, ◌&&◌, ◌||◌, List, [], ◌∷◌, ◌++◌, map, take, refl, ap, sym, subst, ◌∙◌, arith}
+use Rattle.std.proofs.Common.{◌≡◌, ◌≤◌, ℕ, zero, suc, Bool, true, false, not, ◌&&◌, ◌||◌, List, [], ◌∷◌, ◌++◌, map, take, refl, ap, sym, subst, ◌∙◌, arith}
 use Rattle.std.specs.List.{list_any, prefix_len}
-use Rattle.std.specs.Option.{option_map, option_map_or, option_or}
-use Rattle.std.specs.Prelude.{count_by, filter, find, if◌then◌else◌, is_some, take_while, Option, None, Some}
+use Rattle.std.specs.Option.{option_map, option_map_or}
+use Rattle.std.specs.Prelude.{count_by, find, is_some, take_while, Option, None, Some}
 use Rattle.std.proofs.lemmas.Bool.{eqb-true}
 use Rattle.std.proofs.lemmas.List.Elements.{filter-append}
 use Rattle.iso_locklist.specs.Lists.{holds_in, named_hold, named_wait, waits_in}
-use Rattle.iso_locklist.specs.Places.{are_apart, is_grantable_in, line_at, names, one, wait_in}
+use Rattle.iso_locklist.specs.Places.{are_apart, is_grantable_in, line_at, names, wait_in}
 use Rattle.iso_locklist.specs.declared.places.Place.{Place}
 use Rattle.iso_locklist.proofs.Lists.{any_map, any_seek, holds_of_name, kept, left, name_is}
-use Rattle.iso_locklist.proofs.Taken.{AllLines, absent, all_lines, found, wait_is, waits_more}
+use Rattle.iso_locklist.proofs.Taken.{AllLines, absent, all_lines, wait_is, waits_more}
 use Rattle.iso_modes.specs.Modes.{compatible}
-use Rattle.iso_modes.specs.declared.Mode.{Mode}
 use Rattle.iso_queue.specs.Lines as lines
 use Rattle.iso_queue.specs.Lines.{Line, waiter_of}
 use Rattle.iso_queue.specs.Locks as locks
 use Rattle.iso_queue.specs.Queues as queues
-use Rattle.iso_queue.specs.declared.types.Hold.{Hold}
 use Rattle.iso_queue.specs.declared.types.Waiter.{Waiter}
 use Rattle.iso_types.specs.Ids.{conn_eq, name_eq}
 use Rattle.iso_types.specs.declared.value.Conn.{Conn}

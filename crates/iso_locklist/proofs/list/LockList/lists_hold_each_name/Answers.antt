@@ -1,4 +1,4 @@
-use Rattle.std.proofs.Common.{◌≡◌, ap, ◌∙◌, sym, subst, true}
+use Rattle.std.proofs.Common.{◌≡◌, subst, true}
 use Rattle.iso_locklist.specs.Places.{Ledger, are_apart, names}
 use Rattle.iso_locklist.proofs.Lists.{guard_of_name, hold_of_name, holds_of_name, waits_of_name}
 use Rattle.iso_locklist.proofs.list.LockList.lists_hold_each_name.Goals as goal
