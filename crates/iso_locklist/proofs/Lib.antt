@@ -7,3 +7,4 @@ pub mod Apart
 pub mod Lists
 pub mod Taken
 pub mod Waits
+pub mod Asks

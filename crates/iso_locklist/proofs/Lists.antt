@@ -137,7 +137,7 @@ module _ {X Y : Type 0} (get : Line → List X) (g : Name → X → Y) (name_of 
   or_none true b e = cc
   or_none false b e = (refl, e)
 
-  none : (n : Name) (ps : List Place) → list_any (λ (k : Name). name_eq k n) (names ps) ≡ false → of_name n (all_items ps) ≡ []
+  pub none : (n : Name) (ps : List Place) → list_any (λ (k : Name). name_eq k n) (names ps) ≡ false → of_name n (all_items ps) ≡ []
   none n [] e = refl
   none n (p ∷ ps) e =
       let parts = or_none (name_eq p.name n) (list_any (λ (k : Name). name_eq k n) (names ps)) e in

@@ -48,12 +48,12 @@ found_true : {X : Type 0} (t : X → Bool) (r : X) (xs : List X) → find t xs �
 found_true t r [] some = cc some
 found_true t r (x ∷ xs) some = found_true_by t x r xs (t x) refl some (found_true t r xs)
 
-pass : {X : Type 0} (t : X → Bool) (x : X) (xs : List X) → t x ≡ true → take_while t (x ∷ xs) ≡ x ∷ take_while t xs
+pub pass : {X : Type 0} (t : X → Bool) (x : X) (xs : List X) → t x ≡ true → take_while t (x ∷ xs) ≡ x ∷ take_while t xs
 pass t x xs e =
     let more : prefix_len t (x ∷ xs) ≡ suc (prefix_len t xs) = rw e (omega arith) in
     ap (λ (k : ℕ). take k (x ∷ xs)) more
 
-stop : {X : Type 0} (t : X → Bool) (x : X) (xs : List X) → t x ≡ false → take_while t (x ∷ xs) ≡ []
+pub stop : {X : Type 0} (t : X → Bool) (x : X) (xs : List X) → t x ≡ false → take_while t (x ∷ xs) ≡ []
 stop t x xs e = rw e refl
 
 -- not of this connection
@@ -100,10 +100,10 @@ some_count_by c ws (suc k) e some = omega arith
 some_count : (c : Conn) (ws : List Waiter) → is_some (waiter_of ws c) ≡ true → 1 ≤ count_by (λ (w : Waiter). conn_eq w.conn c) ws
 some_count c ws some = some_count_by c ws (count_by (λ (w : Waiter). conn_eq w.conn c) ws) refl some
 
-line_here : (p : Place) (ps : List Place) (n : Name) → name_eq p.name n ≡ true → line_at (p ∷ ps) n ≡ p.queue
+pub line_here : (p : Place) (ps : List Place) (n : Name) → name_eq p.name n ≡ true → line_at (p ∷ ps) n ≡ p.queue
 line_here p ps n e = rw e refl
 
-line_past : (p : Place) (ps : List Place) (n : Name) → name_eq p.name n ≡ false → line_at (p ∷ ps) n ≡ line_at ps n
+pub line_past : (p : Place) (ps : List Place) (n : Name) → name_eq p.name n ≡ false → line_at (p ∷ ps) n ≡ line_at ps n
 line_past p ps n e = rw e refl
 
 counted_by : (c : Conn) (n : Name) (r : Place) (rs : List Place) (b : Bool) → name_eq r.name n ≡ b → is_some (waiter_of (line_at (r ∷ rs) n).waiters c) ≡ true
@@ -116,7 +116,7 @@ counted_by c n r rs false e some ih =
     let more : 1 ≤ count_by (λ (y : queues.Wait). conn_eq y.conn c) (waits_in rs) = ih (sym (ap (λ (l : Line). is_some (waiter_of l.waiters c)) (line_past r rs n e)) ∙ some) in
     omega (arith, waits_more r rs c, more)
 
-counted_wait : (c : Conn) (n : Name) (rs : List Place) → is_some (waiter_of (line_at rs n).waiters c) ≡ true → 1 ≤ count_by (λ (y : queues.Wait). conn_eq y.conn c) (waits_in rs)
+pub counted_wait : (c : Conn) (n : Name) (rs : List Place) → is_some (waiter_of (line_at rs n).waiters c) ≡ true → 1 ≤ count_by (λ (y : queues.Wait). conn_eq y.conn c) (waits_in rs)
 counted_wait c n [] some = cc some
 counted_wait c n (r ∷ rs) some = counted_by c n r rs (name_eq r.name n) refl some (counted_wait c n rs)
 
@@ -159,19 +159,23 @@ opposed : (x : queues.Wait) (h : locks.Hold) → queues.opposes x h ≡ ((not (c
 unfolding queues.opposes
 opposed x h = moved (not (conn_eq h.conn x.conn)) (name_eq h.name x.name) (not (compatible h.mode x.target))
 
+-- a holder opposes it in the list where one does in the line
+pub holds_edge : (ps : List Place) (n : Name) (w : Waiter) → are_apart (names ps) ≡ true
+    → list_any (queues.opposes (named_wait n w)) (holds_in ps) ≡ list_any (lines.opposes w.conn w.target) (line_at ps n).holders
+holds_edge ps n w unlike =
+    any_seek (queues.opposes (named_wait n w)) (λ (h : locks.Hold). not (conn_eq h.conn w.conn) && not (compatible h.mode w.target)) (λ (h : locks.Hold). name_eq h.name n)
+    (holds_in ps) (opposed (named_wait n w))
+    ∙ ap (list_any (λ (h : locks.Hold). not (conn_eq h.conn w.conn) && not (compatible h.mode w.target))) (holds_of_name ps n unlike)
+    ∙ any_map (λ (h : locks.Hold). not (conn_eq h.conn w.conn) && not (compatible h.mode w.target)) (named_hold n) (line_at ps n).holders
+
 edge_is : (ps : List Place) (n : Name) (w : Waiter) → are_apart (names ps) ≡ true → count_by (λ (y : queues.Wait). conn_eq y.conn w.conn) (waits_in ps) ≤ 1
     → is_some (waiter_of (line_at ps n).waiters w.conn) ≡ true
     → queues.has_edge (holds_in ps) (waits_in ps) (named_wait n w) ≡ lines.has_edge (line_at ps n).holders (line_at ps n).waiters w
 edge_is ps n w unlike le some =
-    let holds : list_any (queues.opposes (named_wait n w)) (holds_in ps) ≡ list_any (lines.opposes w.conn w.target) (line_at ps n).holders =
-    any_seek (queues.opposes (named_wait n w)) (λ (h : locks.Hold). not (conn_eq h.conn w.conn) && not (compatible h.mode w.target)) (λ (h : locks.Hold). name_eq h.name n)
-    (holds_in ps) (opposed (named_wait n w))
-    ∙ ap (list_any (λ (h : locks.Hold). not (conn_eq h.conn w.conn) && not (compatible h.mode w.target))) (holds_of_name ps n unlike)
-    ∙ any_map (λ (h : locks.Hold). not (conn_eq h.conn w.conn) && not (compatible h.mode w.target)) (named_hold n) (line_at ps n).holders in
     let waits : list_any (λ (y : queues.Wait). true) (queues.ahead (waits_in ps) (named_wait n w)) ≡ list_any (λ (y : Waiter). true) (lines.before (line_at ps n).waiters w.conn) =
     ap (list_any (λ (y : queues.Wait). true)) (ahead_is w.conn n ps some le)
     ∙ any_map (λ (y : queues.Wait). true) (named_wait n) (lines.before (line_at ps n).waiters w.conn) in
-    ap (λ (b : Bool). b || list_any (λ (y : queues.Wait). true) (queues.ahead (waits_in ps) (named_wait n w))) holds
+    ap (λ (b : Bool). b || list_any (λ (y : queues.Wait). true) (queues.ahead (waits_in ps) (named_wait n w))) (holds_edge ps n w unlike)
     ∙ ap (λ (b : Bool). list_any (lines.opposes w.conn w.target) (line_at ps n).holders || b) waits
 
 none_grantable : (rs : List Place) (c : Conn) → count_by (λ (y : queues.Wait). conn_eq y.conn c) (waits_in rs) ≡ 0 → is_grantable_in rs c ≡ false

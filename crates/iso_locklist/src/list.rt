@@ -2,7 +2,7 @@ ghost use Rattle.std.specs.Prelude.{◌≡◌, ◌<◌, ◌≤◌, [], IfOk, OnO
 ghost use Rattle.iso_locklist.specs.Lists.{IsSingle, holds_in, named_hold, named_wait, waits_in};
 ghost use Rattle.iso_locklist.specs.Places.{IsLimited, IsSameLimits, all_taken, cancelled, each_line, edges_in, is_covered, is_grantable_in, line_at, need_of, released, room_for, taken, wait_in, without};
 ghost use Rattle.iso_locklist.specs.declared.places.Place.{Place as Entry};
-ghost use Rattle.iso_queue.specs.Lines.{asked, claimed, hold_of, is_granted, is_guarded_against, is_used};
+ghost use Rattle.iso_queue.specs.Lines.{asked, claimed, hold_of, is_granted, is_guarded_against, is_used, wait_for, would_wait};
 ghost use Rattle.iso_queue.specs.Locks.{hold_on, others_guard};
 ghost use Rattle.iso_queue.specs.Limits as limits;
 ghost use Rattle.iso_queue.specs.Locks as locks;
@@ -98,7 +98,7 @@ impl LockList {
         )
     }
 
-    /// The connection's hold on the name.
+    /// The connection's hold on the name. Its cost is the number of names, and of those who hold the name.
     pub fn held(&self, conn: Conn, name: Name) -> Option<Hold>
         ensures { result ≡ hold_of (line_at self.now.places name).holders conn }
     {
@@ -108,7 +108,8 @@ impl LockList {
         }
     }
 
-    /// Whether a request for the mode would be granted without a wait.
+    /// Whether a request for the mode would be granted without a wait. Its cost is the number of names, and of those who
+    /// hold or await the name.
     pub fn would_grant(&self, conn: Conn, name: Name, mode: Mode) -> bool
         ensures { result ≡ is_granted (line_at self.now.places name) conn mode }
     {
@@ -119,7 +120,7 @@ impl LockList {
     }
 
     /// Whether the connection's hold on the name's table covers a request for the mode, which then takes no lock. Nothing
-    /// covers a request on a table.
+    /// covers a request on a table. Its cost is the number of names, and of those who hold the table.
     pub fn covered(&self, conn: Conn, name: Name, mode: Mode) -> bool
         ensures { result ≡ is_covered self.now conn name mode }
     {
@@ -153,7 +154,8 @@ impl LockList {
         }
     }
 
-    /// Whether another connection holds S or NW on the name.
+    /// Whether another connection holds S or NW on the name. Its cost is the number of names, and of those who hold the
+    /// name.
     pub fn others_hold(&self, conn: Conn, name: Name) -> bool
         ensures { result ≡ is_guarded_against (line_at self.now.places name).holders conn }
     {
@@ -163,7 +165,7 @@ impl LockList {
         }
     }
 
-    /// Whether somebody holds or awaits the name.
+    /// Whether somebody holds or awaits the name. Its cost is the number of names.
     pub fn in_use(&self, name: Name) -> bool
         ensures { result ≡ is_used (line_at self.now.places name) }
     {
@@ -175,7 +177,8 @@ impl LockList {
 
     /// Requests the mode on the name. `Granted`: the connection holds it, with what it held before. `Queued`: it waits.
     /// Its need is a slot, or none where it holds or awaits the name. `AtShare`, `AtCapacity`: the need is at that limit,
-    /// whatever the queue. `Memory`: want of memory. After a fault nothing changed.
+    /// whatever the queue. `Memory`: want of memory. After a fault nothing changed. Its cost is the number of names, and at
+    /// most the product of those who hold and those who await the name.
     pub fn request(
         &mut self,
         conn: Conn,
@@ -208,7 +211,8 @@ impl LockList {
         Ok(asked)
     }
 
-    /// The connection's hold on the name goes. It takes no memory.
+    /// The connection's hold on the name goes. It takes no memory. Its cost is the number of names, and of those who hold
+    /// or await the name.
     pub fn release(&mut self, conn: Conn, name: Name)
         requires { conn.0 < 32 }
         ensures line { line_at self.new.places name ≡ released (line_at self.old.places name) conn }
@@ -282,6 +286,13 @@ impl LockList {
     pub fn lists_tell_each_wait(&self, conn: Conn)
         ensures grantable { count_by (λ x. conn_eq x.conn conn) (waits_in self.now.places) ≤ 1 → is_grantable_in self.now.places conn ≡ queues.is_grantable (holds_in self.now.places) (waits_in self.now.places) conn }
         ensures wait { wait_in self.now.places conn ≡ option_map (λ x. (x.name, x.target)) (wait_of (waits_in self.now.places) conn) }
+    {
+        let _ = &self.places;
+    }
+
+    /// Law: where the connection waits nowhere, its request would wait where it would in the lists of all holds and waits.
+    pub fn lists_judge_each_request(&self, conn: Conn, name: Name, mode: Mode, term: Term)
+        ensures { count_by (λ x. conn_eq x.conn conn) (waits_in self.now.places) ≡ 0 → would_wait (line_at self.now.places name).holders (line_at self.now.places name).waiters (wait_for (line_at self.now.places name).holders conn mode term) ≡ queues.would_wait (holds_in self.now.places) (waits_in self.now.places) (named_wait name (wait_for (line_at self.now.places name).holders conn mode term)) }
     {
         let _ = &self.places;
     }
