@@ -8,3 +8,4 @@ pub mod Lists
 pub mod Taken
 pub mod Waits
 pub mod Asks
+pub mod Blockers

@@ -44,7 +44,7 @@ found_true_by t x r xs false e some ih =
     let past : find t (x ∷ xs) ≡ find t xs = rw e refl in
     ih (sym past ∙ some)
 
-found_true : {X : Type 0} (t : X → Bool) (r : X) (xs : List X) → find t xs ≡ Some r → t r ≡ true
+pub found_true : {X : Type 0} (t : X → Bool) (r : X) (xs : List X) → find t xs ≡ Some r → t r ≡ true
 found_true t r [] some = cc some
 found_true t r (x ∷ xs) some = found_true_by t x r xs (t x) refl some (found_true t r xs)
 
@@ -143,7 +143,7 @@ ahead_by c n r rs false e some le ih =
     ∙ ih later rest ∙ ap (λ (l : Line). map (named_wait n) (lines.before l.waiters c)) (sym (line_past r rs n e))
 
 -- the earlier waiters of the name are those of its line
-ahead_is : (c : Conn) (n : Name) (rs : List Place) → is_some (waiter_of (line_at rs n).waiters c) ≡ true → count_by (λ (y : queues.Wait). conn_eq y.conn c) (waits_in rs) ≤ 1
+pub ahead_is : (c : Conn) (n : Name) (rs : List Place) → is_some (waiter_of (line_at rs n).waiters c) ≡ true → count_by (λ (y : queues.Wait). conn_eq y.conn c) (waits_in rs) ≤ 1
     → queues.queue (take_while (apart c) (waits_in rs)) n ≡ map (named_wait n) (lines.before (line_at rs n).waiters c)
 ahead_is c n [] some le = cc some
 ahead_is c n (r ∷ rs) some le = ahead_by c n r rs (name_eq r.name n) refl some le (ahead_is c n rs)

@@ -2,13 +2,14 @@ ghost use Rattle.std.specs.Prelude.{◌≡◌, ◌<◌, ◌≤◌, [], IfOk, OnO
 ghost use Rattle.iso_locklist.specs.Lists.{IsSingle, holds_in, named_hold, named_wait, waits_in};
 ghost use Rattle.iso_locklist.specs.Places.{IsLimited, IsSameLimits, all_taken, cancelled, each_line, edges_in, is_covered, is_grantable_in, line_at, need_of, released, room_for, taken, wait_in, without};
 ghost use Rattle.iso_locklist.specs.declared.places.Place.{Place as Entry};
-ghost use Rattle.iso_queue.specs.Lines.{asked, claimed, hold_of, is_granted, is_guarded_against, is_used, wait_for, would_wait};
+ghost use Rattle.iso_queue.specs.Lines.{asked, bits_of, claimed, hold_of, is_granted, is_guarded_against, is_used, wait_for, would_wait};
 ghost use Rattle.iso_queue.specs.Locks.{hold_on, others_guard};
 ghost use Rattle.iso_queue.specs.Limits as limits;
 ghost use Rattle.iso_queue.specs.Locks as locks;
 ghost use Rattle.iso_queue.specs.Queues as queues;
 ghost use Rattle.iso_queue.specs.Queues.{queue, wait_of};
-ghost use Rattle.std.specs.Option.{option_map};
+ghost use Rattle.std.specs.List.{list_any};
+ghost use Rattle.std.specs.Option.{option_map, option_map_or};
 ghost use Rattle.iso_queue.specs.declared.types.Asked.{Asked as Outcome};
 ghost use Rattle.iso_queue.specs.declared.types.Claimed.{Claimed as Answer};
 ghost use Rattle.iso_types.specs.Ids.{conn_eq, name_eq};
@@ -282,9 +283,10 @@ impl LockList {
     }
 
     /// Law: the wait that is told is the connection's in the list of the waits of all names; and where it has one at most,
-    /// a claim is granted where that wait has no edge in the lists.
+    /// a claim is granted where that wait has no edge in the lists, and its edges are those to its blockers there.
     pub fn lists_tell_each_wait(&self, conn: Conn)
         ensures grantable { count_by (λ x. conn_eq x.conn conn) (waits_in self.now.places) ≤ 1 → is_grantable_in self.now.places conn ≡ queues.is_grantable (holds_in self.now.places) (waits_in self.now.places) conn }
+        ensures edges { count_by (λ x. conn_eq x.conn conn) (waits_in self.now.places) ≤ 1 → edges_in self.now.places conn ≡ option_map_or (λ x. bits_of (λ d. list_any (conn_eq d) (queues.blockers (holds_in self.now.places) (waits_in self.now.places) x)) 32) (wait_of (waits_in self.now.places) conn) 0 }
         ensures wait { wait_in self.now.places conn ≡ option_map (λ x. (x.name, x.target)) (wait_of (waits_in self.now.places) conn) }
     {
         let _ = &self.places;
