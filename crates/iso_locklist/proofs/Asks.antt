@@ -1,8 +1,8 @@
 -- Whether a request would wait, in the lists of holds and waits.
-use Rattle.std.proofs.Common.{◌≡◌, ◌≤◌, ◌+◌, ℕ, zero, suc, Bool, true, false, not, ◌&&◌, ◌||◌, List, [], ◌∷◌, ◌++◌, map, refl, ap, sym, subst, ◌∙◌, arith}
+use Rattle.std.proofs.Common.{◌≡◌, ◌≤◌, Bool, true, false, not, ◌&&◌, ◌||◌, List, [], ◌∷◌, ◌++◌, map, refl, ap, sym, subst, ◌∙◌, arith}
 use Rattle.std.specs.List.{list_any}
 use Rattle.std.specs.Option.{option_map}
-use Rattle.std.specs.Prelude.{count_by, filter, find, if◌then◌else◌, is_some, take_while, Option, None, Some}
+use Rattle.std.specs.Prelude.{count_by, find, is_some, take_while, Option, None, Some}
 use Rattle.std.proofs.lemmas.Cmp.{nat_eq_equiv}
 use Rattle.iso_locklist.specs.Lists.{holds_in, named_hold, named_wait, waits_in}
 use Rattle.iso_locklist.specs.Places.{are_apart, line_at, names}

@@ -1,8 +1,8 @@
 -- The edges of a wait, in the lists of holds and waits.
-use Rattle.std.proofs.Common.{◌≡◌, ◌≤◌, ◌+◌, ◌^◌, ℕ, zero, suc, Bool, true, false, not, ◌&&◌, ◌||◌, List, [], ◌∷◌, ◌++◌, map, refl, ap, sym, subst, ◌∙◌, arith}
+use Rattle.std.proofs.Common.{◌≡◌, ◌≤◌, ◌+◌, ◌^◌, ℕ, zero, suc, Bool, true, false, not, ◌&&◌, ◌||◌, List, [], ◌∷◌, map, refl, ap, sym, subst, ◌∙◌}
 use Rattle.std.specs.List.{list_any}
 use Rattle.std.specs.Option.{option_map_or}
-use Rattle.std.specs.Prelude.{count_by, filter, find, if◌then◌else◌, is_some, Option, None, Some}
+use Rattle.std.specs.Prelude.{count_by, filter, if◌then◌else◌, is_some, Option, None, Some}
 use Rattle.std.proofs.lemmas.Bool.{eqb-true}
 use Rattle.std.proofs.lemmas.Cmp.{nat_eq_equiv}
 use Rattle.std.proofs.lemmas.List.Folds.{list_any-append}
@@ -10,7 +10,7 @@ use Rattle.iso_locklist.specs.Lists.{holds_in, named_hold, named_wait, waits_in}
 use Rattle.iso_locklist.specs.Places.{are_apart, edges_in, line_at, names}
 use Rattle.iso_locklist.specs.declared.places.Place.{Place}
 use Rattle.iso_locklist.proofs.Lists.{any_map, any_seek, holds_of_name}
-use Rattle.iso_locklist.proofs.Taken.{AllLines, all_lines, wait_is, waits_more}
+use Rattle.iso_locklist.proofs.Taken.{AllLines, all_lines, wait_is}
 use Rattle.iso_locklist.proofs.Waits.{ahead_is, found_true}
 use Rattle.iso_modes.specs.Modes.{compatible}
 use Rattle.iso_queue.specs.Lines as lines
