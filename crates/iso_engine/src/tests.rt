@@ -1,6 +1,7 @@
 use super::*;
-use iso_io::{SinkMemory, SourceMemory};
+use iso_io::{Sink, SinkMemory, SinkStd, Source, SourceMemory, SourceStd};
 use iso_types::{Items, OpenGate};
+use std::io::{self, Read, Write};
 use std::sync::Wait;
 use std::test::Fail;
 use std::thread::Threads;
@@ -49,11 +50,11 @@ const CASES: [(&[&str], &[u8], &[u8], u8); 11] = [
 ];
 
 // The status for these words and streams, and the number of entries.
-fn answer<R: Threads + Wait + Sync + AllocGlobal>(
+fn answer<R: Threads + Wait + Sync + AllocGlobal, S: Source, K: Sink>(
     rt: &R,
     words: &[&str],
-    source: &mut SourceMemory,
-    sink: &mut SinkMemory,
+    source: &mut S,
+    sink: &mut K,
 ) -> Result<(u8, usize), Fail> {
     let mut list = Vec::new(rt.alloc());
     for word in words {
@@ -61,6 +62,58 @@ fn answer<R: Threads + Wait + Sync + AllocGlobal>(
     }
     let report = db2iso(rt, rt.alloc(), list.as_slice(), source, sink, &OpenGate);
     Ok((report.status, report.history.len()))
+}
+
+// A reader and writer of std that moves so many bytes, and then fails.
+#[derive(Drop)]
+struct Failing(usize);
+
+impl Read for Failing {
+    fn read(&mut self, buf: &mut [u8]) -> io::Result<usize> {
+        let n = self.0.min(buf.len());
+        if n == 0 {
+            return Err(io::ErrorKind::Other.into());
+        }
+        self.0 -= n;
+        Ok(n)
+    }
+}
+
+impl Write for Failing {
+    fn write(&mut self, buf: &[u8]) -> io::Result<usize> {
+        let n = self.0.min(buf.len());
+        if n == 0 {
+            return Err(io::ErrorKind::Other.into());
+        }
+        self.0 -= n;
+        Ok(n)
+    }
+
+    fn flush(&mut self) -> io::Result<()> {
+        Ok(())
+    }
+}
+
+// Whether a reader of std that fails after so many bytes gives status 3, no history, and nothing written.
+fn reader_fails<R: Threads + Wait + Sync + AllocGlobal>(
+    rt: &R,
+    count: usize,
+) -> Result<bool, Fail> {
+    let mut from = SourceStd::new(Failing(count));
+    let mut to = sink(rt, 4096, &[])?;
+    let told = answer(rt, &["serial"], &mut from, &mut to)?;
+    Ok(told.0 == 3 && told.1 == 0 && to.held().is_empty())
+}
+
+// Whether a writer of std that fails after so many bytes gives status 4, and the whole history.
+fn writer_fails<R: Threads + Wait + Sync + AllocGlobal>(
+    rt: &R,
+    count: usize,
+) -> Result<bool, Fail> {
+    let mut from = source(rt, FIRST, 4096, &[])?;
+    let mut to = SinkStd::new(Failing(count));
+    let told = answer(rt, &["serial"], &mut from, &mut to)?;
+    Ok(told.0 == 4 && told.1 == 12)
 }
 
 // A source of these bytes, so many a call, whose listed calls fail.
@@ -160,6 +213,15 @@ fn streams_that_fail(rt: HostRuntime) -> Result<(), Fail> {
             "{count}"
         );
     }
+    Ok(())
+}
+
+#[test]
+fn streams_of_std_that_fail(rt: HostRuntime) -> Result<(), Fail> {
+    assert!(rt; reader_fails(&rt, 0)?);
+    assert!(rt; reader_fails(&rt, 10)?);
+    assert!(rt; writer_fails(&rt, 0)?);
+    assert!(rt; writer_fails(&rt, 5)?);
     Ok(())
 }
 
