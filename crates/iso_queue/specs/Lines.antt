@@ -3,9 +3,9 @@
 -- Db2 LUW, 'Lock type compatibility' and 'Lock conversion'.
 use Rattle.std.specs.List.{list_any}
 use Rattle.std.specs.Option.{option_map_or}
-use Rattle.std.specs.Prelude.{ℕ, zero, suc, ◌+◌, ◌^◌, Bool, true, false, not, ◌&&◌, ◌||◌, List, [], ◌∷◌, is_some, if◌then◌else◌, filter, find, Option}
+use Rattle.std.specs.Prelude.{ℕ, zero, suc, ◌+◌, ◌^◌, Bool, true, false, not, ◌&&◌, ◌||◌, List, [], ◌∷◌, is_some, if◌then◌else◌, filter, find, map, Option}
 use Rattle.iso_modes.specs.Modes.{compatible, joined, mode_eq}
-use Rattle.iso_modes.specs.Terms.{is_kept}
+use Rattle.iso_modes.specs.Terms.{is_brief, is_fresh, is_kept}
 use Rattle.iso_modes.specs.declared.Mode.{Mode}
 use Rattle.iso_modes.specs.declared.Mode.TheVariants.{Nw, S}
 use Rattle.iso_modes.specs.declared.Term.{Term}
@@ -124,6 +124,15 @@ bits_of test (suc k) = bits_of test k + (if test (record { 0 = k }) then 2 ^ k e
 -- the edges of the connection's wait: bit d for connection d
 abbrev pub edges_of : Line → Conn → ℕ
 edges_of q c = option_map_or (λ x. bits_of (has_edge_to q.holders q.waiters x) 32) (waiter_of q.waiters c) 0
+
+-- a hold of the connection that is Fresh, and not spared, becomes Kept
+abbrev pub settled_hold : Conn → Bool → Hold → Hold
+settled_hold c spared h = if conn_eq h.conn c && (is_fresh h.term && not spared) then record h { term = Kept } else h
+
+-- then its Brief holds go
+abbrev pub settled : Line → Conn → Bool → Line
+settled q c spared =
+    record { holders = filter (λ h. not (conn_eq h.conn c && is_brief h.term)) (map (settled_hold c spared) q.holders); waiters = q.waiters }
 
 -- another connection holds S or NW
 abbrev pub is_guarded_against : List Hold → Conn → Bool

@@ -1,10 +1,10 @@
-ghost use Rattle.std.specs.Prelude.{◌≡◌, ◌&&◌, ◌+◌, ◌≤◌, ◌<◌, ◌^◌, length, true, if◌then◌else◌, vec_len, vec_capacity};
+ghost use Rattle.std.specs.Prelude.{◌≡◌, ◌&&◌, ◌+◌, ◌≤◌, ◌<◌, ◌^◌, length, true, not, filter, map, if◌then◌else◌, vec_len, vec_capacity};
 ghost use Rattle.std.specs.List.{insert};
 ghost use Rattle.std.specs.List.{list_any};
 ghost use Rattle.iso_types.specs.Ids.{conn_eq};
 ghost use Rattle.iso_modes.specs.Modes.{mode_eq};
 ghost use Rattle.iso_modes.specs.Terms as terms;
-ghost use Rattle.iso_queue.specs.Lines.{hold_of, is_holder, waiter_of, is_waiter, granted, raised, opposes, unheld, unqueued, before, queued, has_edge, has_edge_to, would_wait, bits_of, target_of, has_mode, is_granted, is_guarded_against};
+ghost use Rattle.iso_queue.specs.Lines.{hold_of, is_holder, waiter_of, is_waiter, granted, raised, opposes, unheld, unqueued, before, queued, has_edge, has_edge_to, would_wait, bits_of, target_of, has_mode, is_granted, is_guarded_against, settled_hold};
 
 use crate::types::{Hold, Waiter};
 use iso_modes::{Mode, Term, compatible, joined};
@@ -177,6 +177,39 @@ pub fn unhold(holders: &mut Vec<Hold>, conn: Conn)
     ensures capacity { vec_capacity holders.new ≡ vec_capacity holders.old }
 {
     holders.retain(|hold| hold.conn != conn);
+}
+
+/// Whether the term is Brief.
+fn is_brief(term: Term) -> bool
+    ensures { result ≡ terms.is_brief term }
+{
+    term == Term::Brief
+}
+
+/// A hold of the connection that is Fresh, and not spared, as Kept.
+fn settle_hold(hold: Hold, conn: Conn, spared: bool) -> Hold
+    ensures { result ≡ settled_hold conn spared hold }
+{
+    if hold.conn == conn && (hold.term == Term::Fresh && !spared) {
+        Hold {
+            term: Term::Kept,
+            ..hold
+        }
+    } else {
+        hold
+    }
+}
+
+/// The connection's Fresh hold becomes Kept where it is not spared, and its Brief hold goes.
+pub fn settle(holders: &mut Vec<Hold>, conn: Conn, spared: bool)
+    ensures items { holders.new.items ≡ filter (λ h. not (conn_eq h.conn conn && terms.is_brief h.term)) (map (settled_hold conn spared) holders.old.items) }
+    ensures len { vec_len holders.new ≤ vec_len holders.old }
+    ensures capacity { vec_capacity holders.new ≡ vec_capacity holders.old }
+{
+    for at in 0..holders.len() {
+        holders[at] = settle_hold(holders[at], conn, spared);
+    }
+    holders.retain(|hold| !(hold.conn == conn && is_brief(hold.term)));
 }
 
 /// The connection's wait goes.

@@ -1,5 +1,5 @@
 ghost use Rattle.std.specs.Prelude.{◌≡◌, [], IfOk, OnErr, OnOk, if◌then◌else◌};
-ghost use Rattle.iso_queue.specs.Lines.{Line, asked, claimed, edges_of, hold_of, is_granted, is_grantable, is_guarded_against, is_touched, is_used, unheld, unqueued, waiter_of};
+ghost use Rattle.iso_queue.specs.Lines.{Line, asked, claimed, edges_of, hold_of, is_granted, is_grantable, is_guarded_against, is_touched, is_used, settled, unheld, unqueued, waiter_of};
 ghost use Rattle.iso_queue.specs.declared.types.Asked.{Asked as Outcome};
 ghost use Rattle.iso_queue.specs.declared.types.Claimed.{Claimed as Answer};
 
@@ -104,6 +104,27 @@ impl Queue {
         ensures waiters { self.new.waiters ≡ self.old.waiters }
     {
         lists::unhold(&mut self.holders, conn);
+    }
+
+    /// The connection's Fresh hold becomes Kept where it is not spared, and its Brief hold goes. It takes no memory.
+    pub fn settle(&mut self, conn: Conn, spared: bool)
+        ensures { self.new ≡ settled self.old conn spared }
+    {
+        lists::settle(&mut self.holders, conn, spared);
+    }
+
+    /// The holders, in order of their first grant.
+    pub fn holders(&self) -> &[Hold]
+        ensures { result.now ≡ self.now.holders }
+    {
+        self.holders.as_slice()
+    }
+
+    /// The waiters, in queue order.
+    pub fn waiters(&self) -> &[Waiter]
+        ensures { result.now ≡ self.now.waiters }
+    {
+        self.waiters.as_slice()
     }
 
     /// The connection's wait goes. It takes no memory.
