@@ -9,3 +9,4 @@ pub mod Taken
 pub mod Waits
 pub mod Asks
 pub mod Blockers
+pub mod Settles

@@ -1,9 +1,9 @@
 ghost use Rattle.std.specs.Prelude.{◌≡◌, ◌<◌, ◌≤◌, [], IfOk, OnOk, OnErr, false, if◌then◌else◌, count_by, filter, length, map, slice_index_or, slice_set};
 ghost use Rattle.iso_locklist.specs.Lists.{IsSingle, holds_in, named_hold, named_wait, waits_in};
-ghost use Rattle.iso_locklist.specs.Places.{IsLimited, IsSameLimits, all_taken, cancelled, each_line, edges_in, is_covered, is_grantable_in, line_at, need_of, released, room_for, taken, wait_in, without};
+ghost use Rattle.iso_locklist.specs.Places.{IsLimited, IsSameLimits, all_taken, cancelled, each_line, edges_in, is_covered, is_grantable_in, is_spared, line_at, need_of, released, room_for, taken, wait_in, changed};
 ghost use Rattle.iso_locklist.specs.declared.places.Place.{Place as Entry};
-ghost use Rattle.iso_queue.specs.Lines.{asked, bits_of, claimed, hold_of, is_granted, is_guarded_against, is_used, wait_for, would_wait};
-ghost use Rattle.iso_queue.specs.Locks.{hold_on, others_guard};
+ghost use Rattle.iso_queue.specs.Lines.{asked, bits_of, claimed, hold_of, is_granted, is_guarded_against, is_used, settled, wait_for, would_wait};
+ghost use Rattle.iso_queue.specs.Locks.{hold_on, others_guard, without_briefs};
 ghost use Rattle.iso_queue.specs.Limits as limits;
 ghost use Rattle.iso_queue.specs.Locks as locks;
 ghost use Rattle.iso_queue.specs.Queues as queues;
@@ -17,7 +17,9 @@ ghost use Rattle.iso_types.specs.declared.value.Name.{Name as Other};
 ghost use Rattle.iso_types.specs.Head.{lock_share, lock_slots};
 
 use crate::covering::{index_tables, table_of};
-use crate::places::{Part, Place, ask, claim_all, end_at, find_place, find_wait, need, queue_of};
+use crate::places::{
+    Change, Place, ask, change_at, claim_all, find_place, find_wait, need, queue_of,
+};
 use crate::room::{LockFault, Room, room_in};
 use iso_modes::{Mode, Term, covers};
 use iso_queue::{Asked, Claimed, Hold};
@@ -109,7 +111,7 @@ impl LockList {
         }
     }
 
-    /// Whether a request for the mode would be granted without a wait. Its cost is the number of names, and of those who
+    /// Whether a request for the mode would be granted changed a wait. Its cost is the number of names, and of those who
     /// hold or await the name.
     pub fn would_grant(&self, conn: Conn, name: Name, mode: Mode) -> bool
         ensures { result ≡ is_granted (line_at self.now.places name) conn mode }
@@ -221,7 +223,7 @@ impl LockList {
         ensures limits { IsSameLimits self.new self.old }
     {
         if let Some(at) = find_place(&self.places, &name) {
-            self.end_at(at, conn, Part::Hold);
+            self.change_at(at, conn, &Change::Release);
         }
     }
 
@@ -232,7 +234,19 @@ impl LockList {
         ensures lines { (n : Other) → line_at self.new.places n ≡ released (line_at self.old.places n) conn }
         ensures limits { IsSameLimits self.new self.old }
     {
-        self.end_all(conn, Part::Hold);
+        self.change_all(conn, &Change::Release);
+    }
+
+    /// Each Fresh hold of the connection becomes Kept, but on the name that is spared, and then its Brief holds go; all else
+    /// stays. It takes no memory. Its cost is the number of names and of all who hold or await them.
+    pub fn settle(&mut self, conn: Conn, spare: Option<Name>)
+        requires { conn.0 < 32 }
+        ensures lines { (n : Other) → line_at self.new.places n ≡ settled (line_at self.old.places n) conn (is_spared spare n) }
+        ensures holds { holds_in self.new.places ≡ without_briefs (holds_in self.old.places) conn (locks.settled conn spare (holds_in self.old.places)) }
+        ensures waits { waits_in self.new.places ≡ waits_in self.old.places }
+        ensures limits { IsSameLimits self.new self.old }
+    {
+        self.change_all(conn, &Change::Settle(spare));
     }
 
     /// The connection's wait goes, on whatever name it waits; its holds stay. It takes no memory. Its cost is the number
@@ -242,7 +256,7 @@ impl LockList {
         ensures lines { (n : Other) → line_at self.new.places n ≡ cancelled (line_at self.old.places n) conn }
         ensures limits { IsSameLimits self.new self.old }
     {
-        self.end_all(conn, Part::Wait);
+        self.change_all(conn, &Change::Cancel);
     }
 
     /// Grants the connection's wait where it has no edge, with what the connection held before; else nothing changes.
@@ -299,26 +313,26 @@ impl LockList {
         let _ = &self.places;
     }
 
-    /// The part of the connection goes from the line at this place.
-    fn end_at(&mut self, at: usize, conn: Conn, part: Part)
+    /// Changes the connection's part in the line at this place.
+    fn change_at(&mut self, at: usize, conn: Conn, change: &Change)
         requires conn { conn.0 < 32 }
         requires at { at < length self.old.places }
-        ensures places { (p : Entry) → p ≡ slice_index_or self.old.places at p → self.new.places ≡ slice_set self.old.places at (record { name = p.name; queue = without part conn p.queue }) }
+        ensures places { (p : Entry) → p ≡ slice_index_or self.old.places at p → self.new.places ≡ slice_set self.old.places at (record { name = p.name; queue = changed change.now conn p.name p.queue }) }
         ensures limits { IsSameLimits self.new self.old }
     {
-        let freed = end_at(&mut self.places, at, conn, part);
+        let freed = change_at(&mut self.places, at, conn, change);
         self.counts[conn.0 as usize] -= freed;
         self.total -= freed;
     }
 
-    /// The part of the connection goes from each line.
-    fn end_all(&mut self, conn: Conn, part: Part)
+    /// Changes the connection's part in each line.
+    fn change_all(&mut self, conn: Conn, change: &Change)
         requires { conn.0 < 32 }
-        ensures places { self.new.places ≡ each_line (without part conn) self.old.places }
+        ensures places { self.new.places ≡ each_line (changed change.now conn) self.old.places }
         ensures limits { IsSameLimits self.new self.old }
     {
         for at in 0..self.places.len() {
-            self.end_at(at, conn, part);
+            self.change_at(at, conn, change);
         }
     }
 }

@@ -11,7 +11,7 @@ returns-in-Some-clause-line c =
     let same = c.deref.ensures.value ∙ ap (λ (l : Ledger). l.places) c.self.view_is in
     let is = subst (λ (xs : List Place). (p : Place) → p ≡ get_or xs c.in-Some.at p → IsPlaceOf xs c.args.name c.in-Some.at p) same c.in-Some.ensures.some in
     let lt = subst (λ (xs : List Place). c.in-Some.at < length xs) same c.in-Some.ensures.within in
-    let put = put_at (λ (q : Line). released q c.args.conn) ps c.end_at.new.self.places c.args.name c.in-Some.at lt is c.end_at.ensures.places in
+    let put = put_at (λ (q : Line). released q c.args.conn) ps c.change_at.new.self.places c.args.name c.in-Some.at lt is c.change_at.ensures.places in
     ap (λ (xs : List Place). line_at xs c.args.name) put ∙ line_at_updated _ _ _
 
 pub returns-in-Some-clause-others : goal.returns-in-Some-clause-others
@@ -20,5 +20,5 @@ returns-in-Some-clause-others c = λ n ne.
     let same = c.deref.ensures.value ∙ ap (λ (l : Ledger). l.places) c.self.view_is in
     let is = subst (λ (xs : List Place). (p : Place) → p ≡ get_or xs c.in-Some.at p → IsPlaceOf xs c.args.name c.in-Some.at p) same c.in-Some.ensures.some in
     let lt = subst (λ (xs : List Place). c.in-Some.at < length xs) same c.in-Some.ensures.within in
-    let put = put_at (λ (q : Line). released q c.args.conn) ps c.end_at.new.self.places c.args.name c.in-Some.at lt is c.end_at.ensures.places in
+    let put = put_at (λ (q : Line). released q c.args.conn) ps c.change_at.new.self.places c.args.name c.in-Some.at lt is c.change_at.ensures.places in
     ap (λ (xs : List Place). line_at xs n) put ∙ line_at_other _ _ n _ ne

@@ -1,10 +1,10 @@
 use Rattle.std.proofs.Common.{ap, refl, ◌∙◌, List}
-use Rattle.iso_locklist.specs.Places.{line_at, without}
-use Rattle.iso_locklist.specs.declared.places.Part.{Part}
+use Rattle.iso_locklist.specs.Places.{line_at, changed}
+use Rattle.iso_locklist.specs.declared.places.Change.{Change}
 use Rattle.iso_locklist.specs.declared.places.Place.{Place}
 use Rattle.iso_locklist.proofs.Updates.{line_at_each}
 use Rattle.iso_locklist.proofs.list.LockList.release_all.Goals as goal
 
 pub returns-clause-lines : goal.returns-clause-lines
 returns-clause-lines c = λ n.
-    ap (λ (ps : List Place). line_at ps n) c.end_all.ensures.places ∙ line_at_each (without Part.Hold c.args.conn) c.args.self.now.places n refl
+    ap (λ (ps : List Place). line_at ps n) c.change_all.ensures.places ∙ line_at_each (changed Change.Release c.args.conn) c.args.self.now.places n refl
