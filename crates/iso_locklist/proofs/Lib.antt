@@ -10,3 +10,5 @@ pub mod Waits
 pub mod Asks
 pub mod Blockers
 pub mod Settles
+pub mod Order
+pub mod Listed

@@ -109,7 +109,7 @@ line_named c spare n (h ∷ hs) =
     ap (λ (x : locks.Hold). x ∷ map (named_hold n) (map (settled_hold c (is_spared spare n)) hs)) (named c spare n h)
     ∙ ap (λ (l : List locks.Hold). locks.settled_one c spare (named_hold n h) ∷ l) (line_named c spare n hs)
 
-map_append : {X Y : Type 0} (f : X → Y) (xs ys : List X) → map f (xs ++ ys) ≡ map f xs ++ map f ys
+pub map_append : {X Y : Type 0} (f : X → Y) (xs ys : List X) → map f (xs ++ ys) ≡ map f xs ++ map f ys
 map_append f [] ys = refl
 map_append f (x ∷ xs) ys = ap (λ (l : List _). f x ∷ l) (map_append f xs ys)
 

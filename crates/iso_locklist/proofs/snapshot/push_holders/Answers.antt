@@ -1,0 +1,7 @@
+use Rattle.std.proofs.Common.{◌≡◌, ◌∙◌, ◌++◌, List, ap, map, sym, append_assoc}
+use Rattle.iso_locklist.proofs.Listed.{holder_more, holders_before}
+use Rattle.iso_queue.specs.declared.LockLine.{LockLine}
+use Rattle.iso_locklist.proofs.snapshot.push_holders.Goals as goal
+
+pub loop-conn-preserved : goal.loop-conn-preserved
+loop-conn-preserved c = holder_more c.args.place.now c.args.lines.now c.loop-conn.lines c.push_holder.new.lines c.loop-conn.conn c.loop-conn.invariant c.in_ok-push_holder.ensures
