@@ -12,3 +12,5 @@ pub mod Blockers
 pub mod Settles
 pub mod Order
 pub mod Listed
+pub mod Ordered
+pub mod Shown

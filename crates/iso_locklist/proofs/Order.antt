@@ -1,17 +1,17 @@
 -- The order of a snapshot's names is a total order.
-use Rattle.std.proofs.Common.{Bor, ◌≡◌, ◌∙◌, ℕ, ℤ, Bool, true, false, not, ◌&&◌, ◌||◌, List, [], ◌∷◌, refl, ap, sym, subst, arith}
+use Rattle.std.proofs.Common.{Bor, ◌≡◌, ◌∙◌, ℕ, ℤ, Bool, true, false, ◌&&◌, ◌||◌, List, [], ◌∷◌, refl, ap, sym, arith}
 use Rattle.std.specs.Cmp.{IsTotalOrder, IsStrictWeakOrder}
-use Rattle.std.specs.Cmp.Lexicographic.{slice_cmp}
-use Rattle.std.specs.Ordering.{int_cmp, is_lt, nat_cmp, on, ordering_reverse, ordering_then, then_cmp}
-use Rattle.std.specs.Prelude.{nat_lt, nat_le, ◌==◌, cond}
+use Rattle.std.specs.Cmp.Lexicographic.{pointwise, slice_cmp}
+use Rattle.std.specs.Ordering.{int_cmp, int_eq, is_lt, nat_cmp, on, ordering_reverse, ordering_then, then_cmp}
+use Rattle.std.specs.Prelude.{nat_eq, nat_lt, nat_le, ◌==◌, cond}
 use Rattle.std.specs.declared.cmp.Ordering.{Ordering}
 use Rattle.std.specs.declared.cmp.Ordering.TheVariants.{Equal, Greater, Less}
-use Rattle.std.proofs.lemmas.Bool.Decides.{nat_tests}
-use Rattle.std.proofs.lemmas.Cmp.{int_cmp_total, nat_cmp_total, nat_list_cmp_total, on_total, then_total}
+use Rattle.std.proofs.lemmas.Bool.Decides.{Decides-int_eq, nat_tests}
+use Rattle.std.proofs.lemmas.Cmp.{int_cmp_total, int_ranked, nat_cmp_total, nat_list_cmp_total, on_total, then_total}
 use Rattle.std.proofs.lemmas.List.Sorted.{ranks_by}
 use Rattle.iso_locklist.specs.declared.places.Place.{Place}
 use Rattle.iso_queue.specs.Snapshots.{name_lt, stands_before, table_number}
-use Rattle.iso_types.specs.Ids.{index_eq, name_eq}
+use Rattle.iso_types.specs.Ids.{name_eq}
 use Rattle.iso_types.specs.Value.{value_cmp, value_eq, value_lt}
 use Rattle.iso_types.specs.declared.head.Head.{Head}
 use Rattle.iso_types.specs.declared.value.Name.{Name}
@@ -158,3 +158,81 @@ name_weak head =
       chain = λ p q r e f. sym (lt_is head p.now.name r.now.name)
           ∙ o.chain p q r (lt_is head p.now.name q.now.name ∙ e) (lt_is head q.now.name r.now.name ∙ f);
     }
+
+then_equal : (o p : Ordering) → ordering_then o p ≡ Equal → (o ≡ Equal) × (p ≡ Equal)
+then_equal Less p e = cc
+then_equal Equal p e = (refl, e)
+then_equal Greater p e = cc
+
+same_number_by : (l e : Bool) → cond l Less (cond e Equal Greater) ≡ Equal → e ≡ true
+same_number_by true e f = cc
+same_number_by false true f = refl
+same_number_by false false f = cc
+
+same_number : (a b : ℕ) → nat_cmp a b ≡ Equal → (a == b) ≡ true
+same_number a b e = same_number_by (nat_lt a b) (a == b) e
+
+both_true : (a b : Bool) → a ≡ true → b ≡ true → (a && b) ≡ true
+both_true a b e f = rw (e, f) refl
+
+int_same : (m n : ℤ) → int_cmp m n ≡ Equal → int_eq m n ≡ true
+int_same m n e = (Decides-int_eq m n).1 (int_ranked m n Equal (sym e))
+
+texts_same : (s t : List ℕ) → slice_cmp nat_cmp s t ≡ Equal → pointwise nat_eq s t ≡ true
+texts_same [] [] e = refl
+texts_same [] (b ∷ t) e = cc
+texts_same (a ∷ s) [] e = cc
+texts_same (a ∷ s) (b ∷ t) e =
+    let parts = then_equal (nat_cmp a b) (slice_cmp nat_cmp s t) e in
+    both_true (nat_eq a b) (pointwise nat_eq s t) (same_number a b parts.0) (texts_same s t parts.1)
+
+value_same : (v w : Value) → value_cmp v w ≡ Equal → value_eq v w ≡ true
+unfolding value_cmp value_eq
+value_same Null Null e = refl
+value_same (Int m) (Int n) e = int_same m n e
+value_same (Text s) (Text t) e = texts_same s t e
+value_same Null (Int n) e = cc
+value_same Null (Text t) e = cc
+value_same (Int m) Null e = cc
+value_same (Int m) (Text t) e = cc
+value_same (Text s) Null e = cc
+value_same (Text s) (Int n) e = cc
+
+never_less : (o : Ordering) (b : Bool) → ordering_then o Less ≡ Equal → b ≡ true
+never_less Less b e = cc
+never_less Equal b e = cc
+never_less Greater b e = cc
+
+never_greater : (o : Ordering) (b : Bool) → ordering_then o Greater ≡ Equal → b ≡ true
+never_greater Less b e = cc
+never_greater Equal b e = cc
+never_greater Greater b e = cc
+
+-- names that tie are the same
+pub same_of : (head : Head) (n m : Name) → name_cmp head n m ≡ Equal → name_eq n m ≡ true
+unfolding name_eq value_cmp
+same_of head (Table t) (Table u) e = same_number t.0 u.0 (then_equal (nat_cmp t.0 u.0) Equal e).0
+same_of head (Row t r) (Row u s) e =
+    let parts = then_equal (nat_cmp t.0 u.0) (ordering_then (nat_cmp r.0 s.0) Equal) e in
+    both_true (t.0 == u.0) (r.0 == s.0) (same_number t.0 u.0 parts.0) (same_number r.0 s.0 (then_equal (nat_cmp r.0 s.0) Equal parts.1).0)
+same_of head (Key i v) (Key j w) e =
+    let parts = then_equal (nat_cmp (table_number head (Key i v)) (table_number head (Key j w))) (ordering_then (nat_cmp i.0 j.0) (value_cmp v w)) e in
+    let rest = then_equal (nat_cmp i.0 j.0) (value_cmp v w) parts.1 in
+    both_true (i.0 == j.0) (value_eq v w) (same_number i.0 j.0 rest.0) (value_same v w rest.1)
+same_of head (End i) (End j) e =
+    let parts = then_equal (nat_cmp (table_number head (End i)) (table_number head (End j))) (ordering_then (nat_cmp i.0 j.0) Equal) e in
+    same_number i.0 j.0 (then_equal (nat_cmp i.0 j.0) Equal parts.1).0
+same_of head (Table t) (Row u s) e = never_less (nat_cmp (table_number head (Table t)) (table_number head (Row u s))) false e
+same_of head (Table t) (Key j w) e = never_less (nat_cmp (table_number head (Table t)) (table_number head (Key j w))) false e
+same_of head (Table t) (End j) e = never_less (nat_cmp (table_number head (Table t)) (table_number head (End j))) false e
+same_of head (Row t r) (Table u) e = never_greater (nat_cmp (table_number head (Row t r)) (table_number head (Table u))) false e
+same_of head (Row t r) (Key j w) e = never_less (nat_cmp (table_number head (Row t r)) (table_number head (Key j w))) false e
+same_of head (Row t r) (End j) e = never_less (nat_cmp (table_number head (Row t r)) (table_number head (End j))) false e
+same_of head (Key i v) (Table u) e = never_greater (nat_cmp (table_number head (Key i v)) (table_number head (Table u))) false e
+same_of head (Key i v) (Row u s) e = never_greater (nat_cmp (table_number head (Key i v)) (table_number head (Row u s))) false e
+same_of head (Key i v) (End j) e =
+    never_less (nat_cmp i.0 j.0) false (then_equal (nat_cmp (table_number head (Key i v)) (table_number head (End j))) (ordering_then (nat_cmp i.0 j.0) Less) e).1
+same_of head (End i) (Table u) e = never_greater (nat_cmp (table_number head (End i)) (table_number head (Table u))) false e
+same_of head (End i) (Row u s) e = never_greater (nat_cmp (table_number head (End i)) (table_number head (Row u s))) false e
+same_of head (End i) (Key j w) e =
+    never_greater (nat_cmp i.0 j.0) false (then_equal (nat_cmp (table_number head (End i)) (table_number head (Key j w))) (ordering_then (nat_cmp i.0 j.0) Greater) e).1

@@ -1,8 +1,7 @@
 -- To settle each line is to settle the list of all holds.
 use Rattle.std.proofs.Common.{◌≡◌, Bool, true, false, not, ◌&&◌, ◌||◌, List, [], ◌∷◌, ◌++◌, map, refl, ap, sym, subst, ◌∙◌, append_assoc}
-use Rattle.std.specs.List.{flat_map, list_any}
+use Rattle.std.specs.List.{list_any}
 use Rattle.std.specs.Prelude.{filter, if◌then◌else◌, Option}
-use Rattle.std.proofs.lemmas.Cmp.{nat_eq_equiv}
 use Rattle.std.proofs.lemmas.List.Elements.{filter-append}
 use Rattle.std.proofs.lemmas.List.Folds.{list_any-append}
 use Rattle.iso_locklist.specs.Lists.{holds_in, named_hold, named_wait, waits_in}
@@ -15,7 +14,7 @@ use Rattle.iso_modes.specs.declared.Term.{Term}
 use Rattle.iso_queue.specs.Lines.{settled_hold}
 use Rattle.iso_queue.specs.Locks as locks
 use Rattle.iso_queue.specs.declared.types.Hold.{Hold}
-use Rattle.iso_types.specs.Ids.{conn_eq, name_eq}
+use Rattle.iso_types.specs.Ids.{conn_eq}
 use Rattle.iso_types.specs.declared.value.Conn.{Conn}
 use Rattle.iso_types.specs.declared.value.Name.{Name}
 
@@ -27,17 +26,17 @@ stays c h = not (conn_eq h.conn c && is_brief h.term)
 abbrev pub stays_after : List locks.Hold → Conn → locks.Hold → Bool
 stays_after before c h = not (conn_eq h.conn c && (is_brief h.term && locks.was_brief before c h.name))
 
-kept : {X : Type 0} (p : X → Bool) (x : X) (xs : List X) → p x ≡ true → filter p (x ∷ xs) ≡ x ∷ filter p xs
+pub kept : {X : Type 0} (p : X → Bool) (x : X) (xs : List X) → p x ≡ true → filter p (x ∷ xs) ≡ x ∷ filter p xs
 kept p x xs e = rw e refl
 
-gone : {X : Type 0} (p : X → Bool) (x : X) (xs : List X) → p x ≡ false → filter p (x ∷ xs) ≡ filter p xs
+pub gone : {X : Type 0} (p : X → Bool) (x : X) (xs : List X) → p x ≡ false → filter p (x ∷ xs) ≡ filter p xs
 gone p x xs e = rw e refl
 
-alike_by : {X : Type 0} (p q : X → Bool) (x : X) (xs : List X) (b : Bool) → q x ≡ b → p x ≡ q x → filter p xs ≡ filter q xs → filter p (x ∷ xs) ≡ filter q (x ∷ xs)
+pub alike_by : {X : Type 0} (p q : X → Bool) (x : X) (xs : List X) (b : Bool) → q x ≡ b → p x ≡ q x → filter p xs ≡ filter q xs → filter p (x ∷ xs) ≡ filter q (x ∷ xs)
 alike_by p q x xs true e same ih = kept p x xs (same ∙ e) ∙ ap (λ (l : List _). x ∷ l) ih ∙ sym (kept q x xs e)
 alike_by p q x xs false e same ih = gone p x xs (same ∙ e) ∙ ih ∙ sym (gone q x xs e)
 
-or_right : (a b : Bool) → b ≡ true → (a || b) ≡ true
+pub or_right : (a b : Bool) → b ≡ true → (a || b) ≡ true
 or_right true b e = refl
 or_right false b e = e
 

@@ -8,6 +8,7 @@ ghost use Rattle.iso_queue.specs.Limits as limits;
 ghost use Rattle.iso_queue.specs.Locks as locks;
 ghost use Rattle.iso_queue.specs.Queues as queues;
 ghost use Rattle.iso_queue.specs.Queues.{queue, wait_of};
+ghost use Rattle.iso_queue.specs.Snapshots.{snapshot};
 ghost use Rattle.std.specs.List.{list_any};
 ghost use Rattle.std.specs.Option.{option_map, option_map_or};
 ghost use Rattle.iso_queue.specs.declared.types.Asked.{Asked as Outcome};
@@ -21,8 +22,9 @@ use crate::places::{
     Change, Place, ask, change_at, claim_all, find_place, find_wait, need, queue_of,
 };
 use crate::room::{LockFault, Room, room_in};
+use crate::snapshot::{in_order, list_lines};
 use iso_modes::{Mode, Term, covers};
-use iso_queue::{Asked, Claimed, Hold};
+use iso_queue::{Asked, Claimed, Hold, LockLine};
 use iso_types::{Conn, Edges, Head, Items, Memory, Name, TableId};
 use std::alloc::Global;
 use std::marker::Model;
@@ -268,6 +270,19 @@ impl LockList {
         ensures limits { IsSameLimits self.new self.old }
     {
         claim_all(&mut self.places, conn)
+    }
+
+    /// The lines of all names that somebody holds or awaits, as a snapshot tells them: by table in order of declaration its
+    /// name, its rows by rid, then for each of its indexes the keys in order and END; at each name the holders among the
+    /// head's connections, by connection, then the waiters in queue order, so a connection that converts its lock has two
+    /// lines. `Memory`: want of memory. It sorts the names, and for each its cost is 32 times those who hold it, and the
+    /// product of those who hold it and those who await it. Db2 LUW, 'MON_GET_LOCKS'; the order is this project's own.
+    pub fn snapshot(&self, head: &Head) -> Result<Items<LockLine>, Memory>
+        requires { length head.now.conns ≤ 32 }
+        ensures { IfOk result (λ lines. lines ≡ snapshot head.now (holds_in self.now.places) (waits_in self.now.places)) }
+    {
+        let places = in_order(self.alloc, head, &self.places)?;
+        list_lines(self.alloc, head, &places)
     }
 
     /// Law: in the lists of the holds and of the waits of all names, those of the name are its holders, and its waiters in

@@ -56,7 +56,11 @@ fn compare(head: &Head, a: &Name, b: &Name) -> Ordering
 }
 
 /// The places in the order of their names.
-pub fn in_order<'a>(alloc: Global, head: &Head, places: &'a [Place]) -> Result<Vec<&'a Place>, Memory>
+pub fn in_order<'a>(
+    alloc: Global,
+    head: &Head,
+    places: &'a [Place],
+) -> Result<Vec<&'a Place>, Memory>
     ensures places { IfOk result (λ sorted. IsPermutation places.now (map (λ p. p.now) sorted.items)) }
     ensures order { IfOk result (λ sorted. IsSortedBy (λ p q. name_lt head.now p.now.name q.now.name) sorted.items) }
 {

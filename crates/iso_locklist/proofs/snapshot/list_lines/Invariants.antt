@@ -1,4 +1,4 @@
-use Rattle.std.proofs.Common.{◌≡◌, map, take, Bor}
+use Rattle.std.proofs.Common.{◌≡◌, take, Bor}
 use Rattle.std.specs.List.{flat_map}
 use Rattle.iso_locklist.specs.Snapshots.{lines_of}
 use Rattle.iso_locklist.specs.declared.places.Place.{Place}

@@ -1,6 +1,4 @@
-use Rattle.std.proofs.Common.{◌≡◌, ◌∙◌, ◌++◌, List, ap, map, sym, append_assoc}
-use Rattle.iso_locklist.proofs.Listed.{holder_more, holders_before}
-use Rattle.iso_queue.specs.declared.LockLine.{LockLine}
+use Rattle.iso_locklist.proofs.Listed.{holder_more}
 use Rattle.iso_locklist.proofs.snapshot.push_holders.Goals as goal
 
 pub loop-conn-preserved : goal.loop-conn-preserved

@@ -3,7 +3,6 @@ use Rattle.std.specs.List.{range_with_len}
 use Rattle.std.specs.Prelude.{filter_map}
 use Rattle.iso_locklist.specs.Snapshots.{holder_line}
 use Rattle.iso_queue.specs.Lines.{hold_of}
-use Rattle.iso_types.specs.declared.value.Conn.{Conn}
 use Rattle.iso_locklist.proofs.snapshot.push_holders.Given as goal
 
 abbrev pub invariant-loop-conn : goal.invariant-loop-conn
