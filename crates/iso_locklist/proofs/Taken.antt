@@ -49,7 +49,7 @@ pub found : {X : Type 0} (t : X → Bool) (xs : List X) → count_by t xs ≤ 1 
 found t [] le = refl
 found t (x ∷ xs) le = found_by t x xs (t x) refl le (found t xs)
 
--- a list changed one
+-- a list without one
 absent_by : {X : Type 0} (t : X → Bool) (x : X) (xs : List X) (b : Bool) → t x ≡ b → count_by t (x ∷ xs) ≡ 0
     → (count_by t xs ≡ 0 → is_some (find t xs) ≡ false) → is_some (find t (x ∷ xs)) ≡ false
 absent_by t x xs true e none ih =

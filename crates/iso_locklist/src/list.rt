@@ -113,7 +113,7 @@ impl LockList {
         }
     }
 
-    /// Whether a request for the mode would be granted changed a wait. Its cost is the number of names, and of those who
+    /// Whether a request for the mode would be granted without a wait. Its cost is the number of names, and of those who
     /// hold or await the name.
     pub fn would_grant(&self, conn: Conn, name: Name, mode: Mode) -> bool
         ensures { result ≡ is_granted (line_at self.now.places name) conn mode }
