@@ -14,3 +14,4 @@ pub mod Order
 pub mod Listed
 pub mod Ordered
 pub mod Shown
+pub mod Singles

@@ -225,7 +225,7 @@ cancelled_none q c e =
     ∙ ap (λ b. b || list_any (of_waiter c) (unqueued c q.waiters)) both.0
     ∙ none_left (of_waiter c) (λ w. not (conn_eq w.conn c)) q.waiters both.1
 
-conn_by : (h : Hold) (b : Bool) → (if b then record h { term = Term.Kept } else h).conn ≡ h.conn
+pub conn_by : (h : Hold) (b : Bool) → (if b then record h { term = Term.Kept } else h).conn ≡ h.conn
 conn_by h true = refl
 conn_by h false = refl
 

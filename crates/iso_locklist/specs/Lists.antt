@@ -31,3 +31,7 @@ waits_in ps = flat_map (λ p. map (named_wait p.name) p.queue.waiters) ps
 pub record IsSingle (ps : List Place) (c : Conn) : Type 0 where
   pub holds : (n : Name) → count_by (λ h. conn_eq h.conn c) (line_at ps n).holders ≤ 1
   pub waits : count_by (λ w. conn_eq w.conn c) (waits_in ps) ≤ 1
+
+-- of each connection for which that was so, it still is
+abbrev pub StaySingle : List Place → List Place → Type 0
+StaySingle old new = (c : Conn) → IsSingle old c → IsSingle new c

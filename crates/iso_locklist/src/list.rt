@@ -1,5 +1,5 @@
-ghost use Rattle.std.specs.Prelude.{◌≡◌, ◌<◌, ◌≤◌, [], IfOk, OnOk, OnErr, false, if◌then◌else◌, count_by, filter, length, map, slice_index_or, slice_set};
-ghost use Rattle.iso_locklist.specs.Lists.{IsSingle, holds_in, named_hold, named_wait, waits_in};
+ghost use Rattle.std.specs.Prelude.{◌≡◌, ◌<◌, ◌≤◌, [], IfOk, OnOk, OnErr, false, if◌then◌else◌, None, count_by, filter, length, map, slice_index_or, slice_set};
+ghost use Rattle.iso_locklist.specs.Lists.{IsSingle, StaySingle, holds_in, named_hold, named_wait, waits_in};
 ghost use Rattle.iso_locklist.specs.Places.{IsLimited, IsSameLimits, all_taken, cancelled, each_line, edges_in, is_covered, is_grantable_in, is_spared, line_at, need_of, released, room_for, taken, wait_in, changed};
 ghost use Rattle.iso_locklist.specs.declared.places.Place.{Place as Entry};
 ghost use Rattle.iso_queue.specs.Lines.{asked, bits_of, claimed, hold_of, is_granted, is_guarded_against, is_used, settled, wait_for, would_wait};
@@ -196,6 +196,7 @@ impl LockList {
         ensures answer { IfOk result (λ a. a ≡ (if is_granted (line_at self.old.places name) conn mode then Outcome.Granted else Outcome.Queued)) }
         ensures line { OnOk result (line_at self.new.places name ≡ asked (line_at self.old.places name) conn mode term) }
         ensures others { (n : Other) → name_eq name n ≡ false → line_at self.new.places n ≡ line_at self.old.places n }
+        ensures single { wait_in self.old.places conn ≡ None → StaySingle self.old.places self.new.places }
         ensures limits { IsSameLimits self.new self.old }
         ensures err { OnErr result (self.new ≡ self.old) }
     {
@@ -222,6 +223,7 @@ impl LockList {
         requires { conn.0 < 32 }
         ensures line { line_at self.new.places name ≡ released (line_at self.old.places name) conn }
         ensures others { (n : Other) → name_eq name n ≡ false → line_at self.new.places n ≡ line_at self.old.places n }
+        ensures single { StaySingle self.old.places self.new.places }
         ensures limits { IsSameLimits self.new self.old }
     {
         if let Some(at) = find_place(&self.places, &name) {
@@ -234,6 +236,7 @@ impl LockList {
     pub fn release_all(&mut self, conn: Conn)
         requires { conn.0 < 32 }
         ensures lines { (n : Other) → line_at self.new.places n ≡ released (line_at self.old.places n) conn }
+        ensures single { StaySingle self.old.places self.new.places }
         ensures limits { IsSameLimits self.new self.old }
     {
         self.change_all(conn, &Change::Release);
@@ -246,6 +249,7 @@ impl LockList {
         ensures lines { (n : Other) → line_at self.new.places n ≡ settled (line_at self.old.places n) conn (is_spared spare n) }
         ensures holds { holds_in self.new.places ≡ without_briefs (holds_in self.old.places) conn (locks.settled conn spare (holds_in self.old.places)) }
         ensures waits { waits_in self.new.places ≡ waits_in self.old.places }
+        ensures single { StaySingle self.old.places self.new.places }
         ensures limits { IsSameLimits self.new self.old }
     {
         self.change_all(conn, &Change::Settle(spare));
@@ -256,6 +260,7 @@ impl LockList {
     pub fn cancel(&mut self, conn: Conn)
         requires { conn.0 < 32 }
         ensures lines { (n : Other) → line_at self.new.places n ≡ cancelled (line_at self.old.places n) conn }
+        ensures single { StaySingle self.old.places self.new.places }
         ensures limits { IsSameLimits self.new self.old }
     {
         self.change_all(conn, &Change::Cancel);
@@ -267,6 +272,7 @@ impl LockList {
     pub fn claim(&mut self, conn: Conn) -> Claimed
         ensures answer { result ≡ (if is_grantable_in self.old.places conn then Answer.Granted else Answer.NotYet) }
         ensures lines { (n : Other) → line_at self.new.places n ≡ claimed (line_at self.old.places n) conn }
+        ensures single { StaySingle self.old.places self.new.places }
         ensures limits { IsSameLimits self.new self.old }
     {
         claim_all(&mut self.places, conn)
