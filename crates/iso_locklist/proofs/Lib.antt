@@ -15,3 +15,4 @@ pub mod Listed
 pub mod Ordered
 pub mod Shown
 pub mod Singles
+pub mod Totals

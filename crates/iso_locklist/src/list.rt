@@ -1,5 +1,5 @@
 ghost use Rattle.std.specs.Prelude.{◌≡◌, ◌<◌, ◌≤◌, [], IfOk, OnOk, OnErr, false, if◌then◌else◌, None, count_by, filter, length, map, slice_index_or, slice_set};
-ghost use Rattle.iso_locklist.specs.Lists.{IsSingle, StaySingle, holds_in, named_hold, named_wait, waits_in};
+ghost use Rattle.iso_locklist.specs.Lists.{IsHeads, IsSingle, StaySingle, holds_in, named_hold, named_wait, waits_in};
 ghost use Rattle.iso_locklist.specs.Places.{IsLimited, IsSameLimits, all_taken, cancelled, each_line, edges_in, is_covered, is_grantable_in, is_spared, line_at, need_of, released, room_for, taken, wait_in, changed};
 ghost use Rattle.iso_locklist.specs.declared.places.Place.{Place as Entry};
 ghost use Rattle.iso_queue.specs.Lines.{asked, bits_of, claimed, hold_of, is_granted, is_guarded_against, is_used, settled, wait_for, would_wait};
@@ -14,6 +14,7 @@ ghost use Rattle.std.specs.Option.{option_map, option_map_or};
 ghost use Rattle.iso_queue.specs.declared.types.Asked.{Asked as Outcome};
 ghost use Rattle.iso_queue.specs.declared.types.Claimed.{Claimed as Answer};
 ghost use Rattle.iso_types.specs.Ids.{conn_eq, name_eq};
+ghost use Rattle.iso_types.specs.declared.value.Conn.{Conn as Who};
 ghost use Rattle.iso_types.specs.declared.value.Name.{Name as Other};
 ghost use Rattle.iso_types.specs.Head.{lock_share, lock_slots};
 
@@ -313,6 +314,14 @@ impl LockList {
     /// the list of all, and of its wait where it does not hold the name.
     pub fn lists_count_each_name(&self, conn: Conn)
         ensures { IsSingle self.now.places conn → taken self.now.places conn ≡ limits.taken (holds_in self.now.places) (waits_in self.now.places) conn }
+    {
+        let _ = &self.places;
+    }
+
+    /// Law: where that is so of each connection, and none but those of the head, at most 32, holds or awaits a name, the
+    /// total is the sum of the counts in the lists.
+    pub fn lists_count_all_names(&self, head: &Head)
+        ensures { length head.now.conns ≤ 32 → ((c : Who) → IsSingle self.now.places c) → IsHeads head.now self.now.places → all_taken self.now.places ≡ limits.all_taken head.now (holds_in self.now.places) (waits_in self.now.places) }
     {
         let _ = &self.places;
     }
