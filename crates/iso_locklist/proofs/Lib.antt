@@ -16,3 +16,4 @@ pub mod Ordered
 pub mod Shown
 pub mod Singles
 pub mod Totals
+pub mod Ends

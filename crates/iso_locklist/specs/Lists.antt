@@ -38,6 +38,6 @@ pub record IsSingle (ps : List Place) (c : Conn) : Type 0 where
 abbrev pub IsHeads : Head → List Place → Type 0
 IsHeads head ps = (c : Conn) → is_conn head c ≡ false → taken ps c ≡ 0
 
--- of each connection for which that was so, it still is
+-- a connection that was so still is
 abbrev pub StaySingle : List Place → List Place → Type 0
 StaySingle old new = (c : Conn) → IsSingle old c → IsSingle new c

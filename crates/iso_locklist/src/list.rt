@@ -3,11 +3,11 @@ ghost use Rattle.iso_locklist.specs.Lists.{IsHeads, IsSingle, StaySingle, holds_
 ghost use Rattle.iso_locklist.specs.Places.{IsLimited, IsSameLimits, all_taken, cancelled, each_line, edges_in, is_covered, is_grantable_in, is_spared, line_at, need_of, released, room_for, taken, wait_in, changed};
 ghost use Rattle.iso_locklist.specs.declared.places.Place.{Place as Entry};
 ghost use Rattle.iso_queue.specs.Lines.{asked, bits_of, claimed, hold_of, is_granted, is_guarded_against, is_used, settled, wait_for, would_wait};
-ghost use Rattle.iso_queue.specs.Locks.{hold_on, others_guard, without_briefs};
+ghost use Rattle.iso_queue.specs.Locks.{dropped, hold_on, others_guard, without_briefs};
 ghost use Rattle.iso_queue.specs.Limits as limits;
 ghost use Rattle.iso_queue.specs.Locks as locks;
 ghost use Rattle.iso_queue.specs.Queues as queues;
-ghost use Rattle.iso_queue.specs.Queues.{queue, wait_of};
+ghost use Rattle.iso_queue.specs.Queues.{queue, unqueued, wait_of};
 ghost use Rattle.iso_queue.specs.Snapshots.{snapshot};
 ghost use Rattle.std.specs.List.{list_any};
 ghost use Rattle.std.specs.Option.{option_map, option_map_or};
@@ -237,6 +237,8 @@ impl LockList {
     pub fn release_all(&mut self, conn: Conn)
         requires { conn.0 < 32 }
         ensures lines { (n : Other) → line_at self.new.places n ≡ released (line_at self.old.places n) conn }
+        ensures holds { holds_in self.new.places ≡ dropped conn (holds_in self.old.places) }
+        ensures waits { waits_in self.new.places ≡ waits_in self.old.places }
         ensures single { StaySingle self.old.places self.new.places }
         ensures limits { IsSameLimits self.new self.old }
     {
@@ -261,6 +263,8 @@ impl LockList {
     pub fn cancel(&mut self, conn: Conn)
         requires { conn.0 < 32 }
         ensures lines { (n : Other) → line_at self.new.places n ≡ cancelled (line_at self.old.places n) conn }
+        ensures holds { holds_in self.new.places ≡ holds_in self.old.places }
+        ensures waits { waits_in self.new.places ≡ unqueued conn (waits_in self.old.places) }
         ensures single { StaySingle self.old.places self.new.places }
         ensures limits { IsSameLimits self.new self.old }
     {
