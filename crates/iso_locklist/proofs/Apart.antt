@@ -2,8 +2,8 @@
 use Rattle.std.proofs.Common.{◌≡◌, ◌<◌, ℕ, zero, suc, Bool, true, false, not, ◌&&◌, ◌||◌, List, [], ◌∷◌, length, set, get_or, refl, ap, sym, ◌∙◌, arith}
 use Rattle.std.specs.List.{list_any}
 use Rattle.std.proofs.lemmas.List.{get_or_default}
-use Rattle.iso_locklist.specs.Places.{are_apart, each_line, names, updated, without}
-use Rattle.iso_locklist.specs.declared.places.Part.{Part}
+use Rattle.iso_locklist.specs.Places.{are_apart, each_line, names, updated, changed}
+use Rattle.iso_locklist.specs.declared.places.Change.{Change}
 use Rattle.iso_locklist.specs.declared.places.Place.{Place}
 use Rattle.iso_locklist.proofs.Names.{name_like, name_same}
 use Rattle.iso_locklist.proofs.Parts.{blank, with_line}
@@ -12,12 +12,12 @@ use Rattle.iso_types.specs.Ids.{name_eq}
 use Rattle.iso_types.specs.declared.value.Conn.{Conn}
 use Rattle.iso_types.specs.declared.value.Name.{Name}
 
-names_each : (f : Line → Line) (ps : List Place) → names (each_line f ps) ≡ names ps
+names_each : (f : Name → Line → Line) (ps : List Place) → names (each_line f ps) ≡ names ps
 names_each f [] = refl
 names_each f (p ∷ ps) = ap (λ (ns : List Name). p.name ∷ ns) (names_each f ps)
 
 -- a change of lines changes no name
-pub apart_each : (f : Line → Line) (ps : List Place) → are_apart (names ps) ≡ true → are_apart (names (each_line f ps)) ≡ true
+pub apart_each : (f : Name → Line → Line) (ps : List Place) → are_apart (names ps) ≡ true → are_apart (names (each_line f ps)) ≡ true
 apart_each f ps e = ap are_apart (names_each f ps) ∙ e
 
 names_set : (ps : List Place) (i : ℕ) (r : Place) → i < length ps → r.name ≡ (get_or ps i r).name → names (set ps i r) ≡ names ps
@@ -25,11 +25,11 @@ names_set [] i r lt e = refl
 names_set (p ∷ ps) zero r lt e = ap (λ (n : Name). n ∷ names ps) e
 names_set (p ∷ ps) (suc i) r lt e = ap (λ (ns : List Name). p.name ∷ ns) (names_set ps i r (omega (arith, lt)) e)
 
-pub apart_at : (part : Part) (ps qs : List Place) (i : ℕ) (c : Conn) → i < length ps → ((p : Place) → p ≡ get_or ps i p → qs ≡ set ps i (with_line (without part c) p))
+pub apart_at : (change : Change) (ps qs : List Place) (i : ℕ) (c : Conn) → i < length ps → ((p : Place) → p ≡ get_or ps i p → qs ≡ set ps i (with_line (changed change c) p))
     → are_apart (names ps) ≡ true → are_apart (names qs) ≡ true
-apart_at part ps qs i c lt put e =
+apart_at change ps qs i c lt put e =
     let p = get_or ps i blank in
-    let r = with_line (without part c) p in
+    let r = with_line (changed change c) p in
     let at : p ≡ get_or ps i p = get_or_default ps i blank p lt in
     let same : p ≡ get_or ps i r = get_or_default ps i blank r lt in
     ap (λ (xs : List Place). are_apart (names xs)) (put p at) ∙ ap are_apart (names_set ps i r lt (ap (λ (x : Place). x.name) same)) ∙ e

@@ -172,23 +172,23 @@ counted_less ps qs old q counts total k freed is same lt e =
     counted ps qs old q counts total k (get_or counts k 0 - freed) (total - freed) is same lt (omega arith) (omega arith)
 
 -- what leaves each touch leaves the counts
-taken_each : (f : Line → Line) (ps : List Place) (d : Conn) → ((q : Line) → is_touched (f q) d ≡ is_touched q d) → taken (each_line f ps) d ≡ taken ps d
+taken_each : (f : Name → Line → Line) (ps : List Place) (d : Conn) → ((n : Name) (q : Line) → is_touched (f n q) d ≡ is_touched q d) → taken (each_line f ps) d ≡ taken ps d
 taken_each f [] d same = refl
 taken_each f (p ∷ ps) d same =
-    taken_cons (record { name = p.name; queue = f p.queue }) (each_line f ps) d
-    ∙ ap (λ b. one b + taken (each_line f ps) d) (same p.queue)
+    taken_cons (record { name = p.name; queue = f p.name p.queue }) (each_line f ps) d
+    ∙ ap (λ b. one b + taken (each_line f ps) d) (same p.name p.queue)
     ∙ ap (λ k. one (is_touched p.queue d) + k) (taken_each f ps d same)
     ∙ sym (taken_cons p ps d)
 
-below_each : (f : Line → Line) (ps : List Place) (m : ℕ) → ((q : Line) (d : Conn) → is_touched (f q) d ≡ is_touched q d) → taken_below (each_line f ps) m ≡ taken_below ps m
+below_each : (f : Name → Line → Line) (ps : List Place) (m : ℕ) → ((n : Name) (q : Line) (d : Conn) → is_touched (f n q) d ≡ is_touched q d) → taken_below (each_line f ps) m ≡ taken_below ps m
 below_each f ps zero same = refl
-below_each f ps (suc m) same = omega (arith, below_each f ps m same, taken_each f ps (record { 0 = m }) (λ q. same q (record { 0 = m })))
+below_each f ps (suc m) same = omega (arith, below_each f ps m same, taken_each f ps (record { 0 = m }) (λ n q. same n q (record { 0 = m })))
 
-pub counted_each : (f : Line → Line) (ps : List Place) (counts : List ℕ) (total : ℕ) → IsCounted ps counts total
-    → ((q : Line) (d : Conn) → is_touched (f q) d ≡ is_touched q d) → IsCounted (each_line f ps) counts total
+pub counted_each : (f : Name → Line → Line) (ps : List Place) (counts : List ℕ) (total : ℕ) → IsCounted ps counts total
+    → ((n : Name) (q : Line) (d : Conn) → is_touched (f n q) d ≡ is_touched q d) → IsCounted (each_line f ps) counts total
 unfolding all_taken
 counted_each f ps counts total is same = record {
   size = is.size;
-  each = λ c small. is.each c small ∙ sym (taken_each f ps (record { 0 = c }) (λ q. same q (record { 0 = c })));
+  each = λ c small. is.each c small ∙ sym (taken_each f ps (record { 0 = c }) (λ n q. same n q (record { 0 = c })));
   all = is.all ∙ sym (below_each f ps 32 same);
 }

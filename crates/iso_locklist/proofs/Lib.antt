@@ -9,3 +9,11 @@ pub mod Taken
 pub mod Waits
 pub mod Asks
 pub mod Blockers
+pub mod Settles
+pub mod Order
+pub mod Listed
+pub mod Ordered
+pub mod Shown
+pub mod Singles
+pub mod Totals
+pub mod Ends

@@ -188,7 +188,7 @@ holds_of_name ps n apart = items_of (λ (q : Line). q.holders) named_hold (λ h.
 pub waits_of_name : (ps : List Place) (n : Name) → are_apart (names ps) ≡ true → queue (waits_in ps) n ≡ map (named_wait n) (line_at ps n).waiters
 waits_of_name ps n apart = items_of (λ (q : Line). q.waiters) named_wait (λ w. w.name) (λ m x. refl) ps n refl apart
 
-is_hold : (c : Conn) (n : Name) (h : locks.Hold) → locks.is_hold_of c n h ≡ (conn_eq h.conn c && name_eq h.name n)
+pub is_hold : (c : Conn) (n : Name) (h : locks.Hold) → locks.is_hold_of c n h ≡ (conn_eq h.conn c && name_eq h.name n)
 unfolding locks.is_hold_of
 is_hold c n h = refl
 

@@ -1,56 +1,57 @@
--- A part of a connection goes from one line, or from each.
+-- A connection's part in one line is changed, or in each.
 use Rattle.std.proofs.Common.{◌≡◌, ◌<◌, ◌≤◌, ◌+◌, ◌-◌, ℕ, Bool, true, false, ◌||◌, List, [], ◌∷◌, ◌++◌, length, map, set, take, drop, get_or, refl, ap, sym, subst, ◌∙◌, arith}
 use Rattle.std.specs.List.{list_any}
 use Rattle.std.proofs.Math.Seq.{drop-append_seam}
 use Rattle.std.proofs.lemmas.List.{length-map, get_or_default, get_or-drop, length-drop, length-take-le, take_more}
 use Rattle.std.proofs.lemmas.List.Edits.{map_over_more}
 use Rattle.std.proofs.lemmas.List.Folds.{list_any-append}
-use Rattle.iso_locklist.specs.Places.{IsCounted, each_line, is_grantable_in, nobody, one, without}
-use Rattle.iso_locklist.specs.declared.places.Part.{Part}
+use Rattle.iso_locklist.specs.Places.{IsCounted, each_line, is_grantable_in, nobody, one, changed}
+use Rattle.iso_locklist.specs.declared.places.Change.{Change}
 use Rattle.iso_locklist.specs.declared.places.Place.{Place}
 use Rattle.iso_locklist.proofs.Counts.{Moved, counted_less, freed_le, freed_le_all, moved_at}
-use Rattle.iso_locklist.proofs.Touched.{without_other}
+use Rattle.iso_locklist.proofs.Touched.{changed_other}
 use Rattle.iso_queue.specs.Lines.{Line, is_grantable, is_touched}
 use Rattle.iso_types.specs.declared.value.Conn.{Conn}
+use Rattle.iso_types.specs.declared.value.Name.{Name}
 use Rattle.iso_types.specs.declared.value.Name.TheVariants.{End}
 
 -- any place, for an index that is none
 abbrev pub blank : Place
 blank = record { name = End (record { 0 = 0 }); queue = nobody }
 
-abbrev pub with_line : (Line → Line) → Place → Place
-with_line f p = record { name = p.name; queue = f p.queue }
+abbrev pub with_line : (Name → Line → Line) → Place → Place
+with_line f p = record { name = p.name; queue = f p.name p.queue }
 
 -- what the line at an index gives back
-abbrev pub Frees : Part → List Place → ℕ → Conn → ℕ → Type 0
-Frees part ps i c freed = (p : Place) → p ≡ get_or ps i p → one (is_touched p.queue c) ≡ freed + one (is_touched (without part c p.queue) c)
+abbrev pub Frees : Change → List Place → ℕ → Conn → ℕ → Type 0
+Frees change ps i c freed = (p : Place) → p ≡ get_or ps i p → one (is_touched p.queue c) ≡ freed + one (is_touched (changed change c p.name p.queue) c)
 
-moved_part : (part : Part) (ps : List Place) (i : ℕ) (c : Conn) (p : Place) → i < length ps → p ≡ get_or ps i p
-    → Moved ps (set ps i (with_line (without part c) p)) p.queue (without part c p.queue) c.0
-moved_part part ps i c p lt at = moved_at ps i p (with_line (without part c) p) c.0 lt at (λ d ne. without_other part p.queue c d ne)
+moved_change : (change : Change) (ps : List Place) (i : ℕ) (c : Conn) (p : Place) → i < length ps → p ≡ get_or ps i p
+    → Moved ps (set ps i (with_line (changed change c) p)) p.queue (changed change c p.name p.queue) c.0
+moved_change change ps i c p lt at = moved_at ps i p (with_line (changed change c) p) c.0 lt at (λ d ne. changed_other change p.name p.queue c d ne)
 
-pub freed_le_at : (part : Part) (ps : List Place) (i : ℕ) (c : Conn) (freed : ℕ) (counts : List ℕ) (total : ℕ) → IsCounted ps counts total → i < length ps → c.0 < 32
-    → Frees part ps i c freed → freed ≤ get_or counts c.0 0
-freed_le_at part ps i c freed counts total is lt small frees =
+pub freed_le_at : (change : Change) (ps : List Place) (i : ℕ) (c : Conn) (freed : ℕ) (counts : List ℕ) (total : ℕ) → IsCounted ps counts total → i < length ps → c.0 < 32
+    → Frees change ps i c freed → freed ≤ get_or counts c.0 0
+freed_le_at change ps i c freed counts total is lt small frees =
     let p = get_or ps i blank in
     let at : p ≡ get_or ps i p = get_or_default ps i blank p lt in
-    freed_le ps (set ps i (with_line (without part c) p)) p.queue (without part c p.queue) counts total c.0 freed is (moved_part part ps i c p lt at) small (frees p at)
+    freed_le ps (set ps i (with_line (changed change c) p)) p.queue (changed change c p.name p.queue) counts total c.0 freed is (moved_change change ps i c p lt at) small (frees p at)
 
-pub freed_le_all_at : (part : Part) (ps : List Place) (i : ℕ) (c : Conn) (freed : ℕ) (counts : List ℕ) (total : ℕ) → IsCounted ps counts total → i < length ps → c.0 < 32
-    → Frees part ps i c freed → freed ≤ total
-freed_le_all_at part ps i c freed counts total is lt small frees =
+pub freed_le_all_at : (change : Change) (ps : List Place) (i : ℕ) (c : Conn) (freed : ℕ) (counts : List ℕ) (total : ℕ) → IsCounted ps counts total → i < length ps → c.0 < 32
+    → Frees change ps i c freed → freed ≤ total
+freed_le_all_at change ps i c freed counts total is lt small frees =
     let p = get_or ps i blank in
     let at : p ≡ get_or ps i p = get_or_default ps i blank p lt in
-    freed_le_all ps (set ps i (with_line (without part c) p)) p.queue (without part c p.queue) counts total c.0 freed is (moved_part part ps i c p lt at) small (frees p at)
+    freed_le_all ps (set ps i (with_line (changed change c) p)) p.queue (changed change c p.name p.queue) counts total c.0 freed is (moved_change change ps i c p lt at) small (frees p at)
 
-pub counted_at : (part : Part) (ps qs : List Place) (i : ℕ) (c : Conn) (freed : ℕ) (counts : List ℕ) (total : ℕ) → IsCounted ps counts total → i < length ps → c.0 < 32
-    → Frees part ps i c freed → ((p : Place) → p ≡ get_or ps i p → qs ≡ set ps i (with_line (without part c) p))
+pub counted_at : (change : Change) (ps qs : List Place) (i : ℕ) (c : Conn) (freed : ℕ) (counts : List ℕ) (total : ℕ) → IsCounted ps counts total → i < length ps → c.0 < 32
+    → Frees change ps i c freed → ((p : Place) → p ≡ get_or ps i p → qs ≡ set ps i (with_line (changed change c) p))
     → IsCounted qs (set counts c.0 (get_or counts c.0 0 - freed)) (total - freed)
-counted_at part ps qs i c freed counts total is lt small frees put =
+counted_at change ps qs i c freed counts total is lt small frees put =
     let p = get_or ps i blank in
     let at : p ≡ get_or ps i p = get_or_default ps i blank p lt in
     subst (λ (xs : List Place). IsCounted xs (set counts c.0 (get_or counts c.0 0 - freed)) (total - freed)) (sym (put p at))
-    (counted_less ps (set ps i (with_line (without part c) p)) p.queue (without part c p.queue) counts total c.0 freed is (moved_part part ps i c p lt at) small (frees p at))
+    (counted_less ps (set ps i (with_line (changed change c) p)) p.queue (changed change c p.name p.queue) counts total c.0 freed is (moved_change change ps i c p lt at) small (frees p at))
 
 -- a loop over the places has not yet changed those ahead
 seam : (g : Place → Place) (xs ys : List Place) (i : ℕ) → i < length xs → ys ≡ map g (take i xs) ++ drop i xs → drop i ys ≡ drop i xs
@@ -69,7 +70,7 @@ pub seam_len : (g : Place → Place) (xs ys : List Place) (i : ℕ) → i < leng
 seam_len g xs ys i lt e = omega (arith, lt, length-drop i ys, length-drop i xs, ap length (seam g xs ys i lt e))
 
 -- one more line is changed
-pub each_more : (f : Line → Line) (xs ys zs : List Place) (i : ℕ) → i < length xs → ys ≡ each_line f (take i xs) ++ drop i xs
+pub each_more : (f : Name → Line → Line) (xs ys zs : List Place) (i : ℕ) → i < length xs → ys ≡ each_line f (take i xs) ++ drop i xs
     → ((p : Place) → p ≡ get_or ys i p → zs ≡ set ys i (with_line f p)) → zs ≡ each_line f (take (i + 1) xs) ++ drop (i + 1) xs
 each_more f xs ys zs i lt e put =
     let p = get_or ys i blank in

@@ -21,14 +21,14 @@ use Rattle.iso_types.specs.Ids.{conn_eq, name_eq}
 use Rattle.iso_types.specs.declared.value.Conn.{Conn}
 use Rattle.iso_types.specs.declared.value.Name.{Name}
 
-count_cons : {X : Type 0} (t : X → Bool) (x : X) (xs : List X) → count_by t (x ∷ xs) ≡ one (t x) + count_by t xs
+pub count_cons : {X : Type 0} (t : X → Bool) (x : X) (xs : List X) → count_by t (x ∷ xs) ≡ one (t x) + count_by t xs
 count_cons t x xs = sum_by-cons (λ (y : _). one (t y)) x xs
 
-count_append : {X : Type 0} (t : X → Bool) (xs ys : List X) → count_by t (xs ++ ys) ≡ count_by t xs + count_by t ys
+pub count_append : {X : Type 0} (t : X → Bool) (xs ys : List X) → count_by t (xs ++ ys) ≡ count_by t xs + count_by t ys
 count_append t [] ys = omega arith
 count_append t (x ∷ xs) ys = omega (arith, count_cons t x (xs ++ ys), count_append t xs ys, count_cons t x xs)
 
-count_map : {X Y : Type 0} (t : Y → Bool) (f : X → Y) (xs : List X) → count_by t (map f xs) ≡ count_by (λ x. t (f x)) xs
+pub count_map : {X Y : Type 0} (t : Y → Bool) (f : X → Y) (xs : List X) → count_by t (map f xs) ≡ count_by (λ x. t (f x)) xs
 count_map t f [] = refl
 count_map t f (x ∷ xs) = omega (arith, count_cons t (f x) (map f xs), count_map t f xs, count_cons (λ y. t (f y)) x xs)
 

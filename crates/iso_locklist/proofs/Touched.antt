@@ -1,19 +1,21 @@
 -- Which connections a call's line change touches.
-use Rattle.std.proofs.Common.{◌≡◌, ◌+◌, ℕ, Bool, true, false, not, ◌&&◌, ◌||◌, List, [], ◌∷◌, refl, ap, sym, subst, ◌∙◌}
+use Rattle.std.proofs.Common.{◌≡◌, ◌+◌, ℕ, Bool, true, false, not, ◌&&◌, ◌||◌, List, [], ◌∷◌, map, refl, ap, sym, subst, ◌∙◌}
 use Rattle.std.specs.List.{list_any}
 use Rattle.std.specs.Option.{option_map_or}
 use Rattle.std.specs.Prelude.{if◌then◌else◌, find, filter, is_some, Option, None, Some}
 use Rattle.std.proofs.lemmas.Bool.{eqb-true}
 use Rattle.std.proofs.lemmas.Cmp.{nat_eq_equiv}
+use Rattle.iso_modes.specs.Terms.{is_brief, is_fresh}
 use Rattle.iso_modes.specs.declared.Mode.{Mode}
 use Rattle.iso_modes.specs.declared.Term.{Term}
-use Rattle.iso_locklist.specs.Places.{cancelled, one, released, without}
-use Rattle.iso_locklist.specs.declared.places.Part.{Part}
-use Rattle.iso_queue.specs.Lines.{Line, asked, claimed, granted, is_granted, is_holder, is_touched, is_waiter, queued, raised, unheld, unqueued, wait_for, waiter_of, has_edge, taken_in}
+use Rattle.iso_locklist.specs.Places.{cancelled, changed, is_spared, one, released}
+use Rattle.iso_locklist.specs.declared.places.Change.{Change}
+use Rattle.iso_queue.specs.Lines.{Line, asked, claimed, granted, is_granted, is_holder, is_touched, is_waiter, queued, raised, settled, settled_hold, unheld, unqueued, wait_for, waiter_of, has_edge, taken_in}
 use Rattle.iso_queue.specs.declared.types.Hold.{Hold}
 use Rattle.iso_queue.specs.declared.types.Waiter.{Waiter}
 use Rattle.iso_types.specs.Ids.{conn_eq}
 use Rattle.iso_types.specs.declared.value.Conn.{Conn}
+use Rattle.iso_types.specs.declared.value.Name.{Name}
 
 -- of this connection
 abbrev pub of_hold : Conn → Hold → Bool
@@ -223,14 +225,45 @@ cancelled_none q c e =
     ∙ ap (λ b. b || list_any (of_waiter c) (unqueued c q.waiters)) both.0
     ∙ none_left (of_waiter c) (λ w. not (conn_eq w.conn c)) q.waiters both.1
 
-without_none : (part : Part) (q : Line) (c : Conn) → is_touched q c ≡ false → is_touched (without part c q) c ≡ false
-without_none Part.Hold q c e = released_none q c e
-without_none Part.Wait q c e = cancelled_none q c e
+pub conn_by : (h : Hold) (b : Bool) → (if b then record h { term = Term.Kept } else h).conn ≡ h.conn
+conn_by h true = refl
+conn_by h false = refl
+
+any_settled : (c d : Conn) (s : Bool) (hs : List Hold) → list_any (of_hold d) (map (settled_hold c s) hs) ≡ list_any (of_hold d) hs
+any_settled c d s [] = refl
+any_settled c d s (h ∷ hs) =
+    ap (λ (x : Conn). conn_eq x d || list_any (of_hold d) (map (settled_hold c s) hs)) (conn_by h (conn_eq h.conn c && (is_fresh h.term && not s)))
+    ∙ ap (λ (b : Bool). conn_eq h.conn d || b) (any_settled c d s hs)
+
+settled_none : (q : Line) (c : Conn) (s : Bool) → is_touched q c ≡ false → is_touched (settled q c s) c ≡ false
+settled_none q c s e =
+    let both = or_none (list_any (of_hold c) q.holders) (list_any (of_waiter c) q.waiters) (sym (touched_any q c) ∙ e) in
+    touched_any (settled q c s) c
+    ∙ ap (λ b. b || list_any (of_waiter c) q.waiters)
+    (none_left (of_hold c) (λ (h : Hold). not (conn_eq h.conn c && is_brief h.term)) (map (settled_hold c s) q.holders) (any_settled c c s q.holders ∙ both.0))
+    ∙ both.1
+
+own : (a b : Bool) → not (a && b) ≡ false → a ≡ true
+own true b e = refl
+own false b e = sym e
+
+settled_other : (q : Line) (c d : Conn) (s : Bool) → conn_eq c d ≡ false → is_touched (settled q c s) d ≡ is_touched q d
+settled_other q c d s ne =
+    touched_like (settled q c s) q d
+    (left_out (of_hold d) (λ (h : Hold). not (conn_eq h.conn c && is_brief h.term)) (map (settled_hold c s) q.holders)
+    (λ y e. nat_eq_equiv.congr y.conn.0 c.0 d.0 (own (conn_eq y.conn c) (is_brief y.term) e) ∙ ne)
+    ∙ any_settled c d s q.holders) refl
+
+changed_none : (change : Change) (n : Name) (q : Line) (c : Conn) → is_touched q c ≡ false → is_touched (changed change c n q) c ≡ false
+changed_none Change.Release n q c e = released_none q c e
+changed_none Change.Cancel n q c e = cancelled_none q c e
+changed_none (Change.Settle spare) n q c e = settled_none q c (is_spared spare n) e
 
 -- for another connection nothing changes
-pub without_other : (part : Part) (q : Line) (c d : Conn) → conn_eq c d ≡ false → is_touched (without part c q) d ≡ is_touched q d
-without_other Part.Hold q c d ne = released_other q c d ne
-without_other Part.Wait q c d ne = cancelled_other q c d ne
+pub changed_other : (change : Change) (n : Name) (q : Line) (c d : Conn) → conn_eq c d ≡ false → is_touched (changed change c n q) d ≡ is_touched q d
+changed_other Change.Release n q c d ne = released_other q c d ne
+changed_other Change.Cancel n q c d ne = cancelled_other q c d ne
+changed_other (Change.Settle spare) n q c d ne = settled_other q c d (is_spared spare n) ne
 
 -- what is given back, by what the connection touched before and after
 abbrev pub given : Bool → Bool → ℕ
@@ -242,12 +275,12 @@ given_by true false h = refl
 given_by false true h = cc (h refl)
 given_by false false h = refl
 
-pub freed_is : (part : Part) (q r : Line) (c : Conn) (before after : Bool) (freed : ℕ) → r ≡ without part c q → before ≡ is_touched q c → after ≡ is_touched r c
-    → freed ≡ given before after → one (is_touched q c) ≡ freed + one (is_touched (without part c q) c)
-freed_is part q r c before after freed e f g h =
-    let k : freed ≡ given (is_touched q c) (is_touched (without part c q) c) =
+pub freed_is : (change : Change) (n : Name) (q r : Line) (c : Conn) (before after : Bool) (freed : ℕ) → r ≡ changed change c n q → before ≡ is_touched q c → after ≡ is_touched r c
+    → freed ≡ given before after → one (is_touched q c) ≡ freed + one (is_touched (changed change c n q) c)
+freed_is change n q r c before after freed e f g h =
+    let k : freed ≡ given (is_touched q c) (is_touched (changed change c n q) c) =
     h ∙ ap (λ a. given a after) f ∙ ap (λ b. given (is_touched q c) b) (g ∙ ap (λ (l : Line). is_touched l c) e) in
-    given_by (is_touched q c) (is_touched (without part c q) c) (without_none part q c) ∙ ap (λ x. x + one (is_touched (without part c q) c)) (sym k)
+    given_by (is_touched q c) (is_touched (changed change c n q) c) (changed_none change n q c) ∙ ap (λ x. x + one (is_touched (changed change c n q) c)) (sym k)
 
 pub same_line : (r s : Line) → r.holders ≡ s.holders → r.waiters ≡ s.waiters → r ≡ s
 same_line r s e f = ap (λ h. record { holders = h; waiters = r.waiters }) e ∙ ap (λ w. record { holders = s.holders; waiters = w }) f

@@ -4,6 +4,7 @@ use Rattle.std.specs.Prelude.{slice_set}
 use Rattle.std.proofs.lemmas.List.{set_split, take_more, take_all, drop_all, get_or_default}
 use Rattle.iso_locklist.specs.Places.{IsAbsent, IsPlaceOf, each_line, line_at, nobody, updated}
 use Rattle.iso_locklist.specs.declared.places.Place.{Place}
+use Rattle.iso_locklist.proofs.Lists.{name_is}
 use Rattle.iso_locklist.proofs.Names.{name_same, name_like}
 use Rattle.iso_queue.specs.Lines.{Line}
 use Rattle.iso_types.specs.Ids.{name_eq}
@@ -93,12 +94,14 @@ holds_at G ps n i lt is good =
     let at : p ≡ get_or ps i p = get_or_default ps i (record { name = n; queue = nobody }) p lt in
     subst G (sym (is p at).line) (good p at)
 
-each_by : (f : Line → Line) (p : Place) (ps : List Place) (n : Name) (b : Bool) → name_eq p.name n ≡ b → line_at (each_line f ps) n ≡ f (line_at ps n)
-    → line_at (each_line f (p ∷ ps)) n ≡ f (line_at (p ∷ ps) n)
-each_by f p ps n true e ih = line_here (record { name = p.name; queue = f p.queue }) (each_line f ps) n e ∙ ap f (sym (line_here p ps n e))
-each_by f p ps n false e ih = line_past (record { name = p.name; queue = f p.queue }) (each_line f ps) n e ∙ ih ∙ ap f (sym (line_past p ps n e))
+each_by : (f : Name → Line → Line) (p : Place) (ps : List Place) (n : Name) (b : Bool) → name_eq p.name n ≡ b → line_at (each_line f ps) n ≡ f n (line_at ps n)
+    → line_at (each_line f (p ∷ ps)) n ≡ f n (line_at (p ∷ ps) n)
+each_by f p ps n true e ih =
+    line_here (record { name = p.name; queue = f p.name p.queue }) (each_line f ps) n e
+    ∙ ap (λ (m : Name). f m p.queue) (name_is p.name n e) ∙ ap (f n) (sym (line_here p ps n e))
+each_by f p ps n false e ih = line_past (record { name = p.name; queue = f p.name p.queue }) (each_line f ps) n e ∙ ih ∙ ap (f n) (sym (line_past p ps n e))
 
 -- what is done to each line is done to each name's, where it leaves the line of nobody
-pub line_at_each : (f : Line → Line) (ps : List Place) (n : Name) → f nobody ≡ nobody → line_at (each_line f ps) n ≡ f (line_at ps n)
+pub line_at_each : (f : Name → Line → Line) (ps : List Place) (n : Name) → f n nobody ≡ nobody → line_at (each_line f ps) n ≡ f n (line_at ps n)
 line_at_each f [] n e = sym e
 line_at_each f (p ∷ ps) n e = each_by f p ps n (name_eq p.name n) refl (line_at_each f ps n e)

@@ -1,13 +1,15 @@
 -- The lock list as one list of the holds, and one of the waits, of all names: the form in which a history's locks are told.
 use Rattle.std.specs.List.{flat_map}
-use Rattle.std.specs.Prelude.{◌≤◌, List, count_by, map}
-use Rattle.iso_locklist.specs.Places.{line_at}
+use Rattle.std.specs.Prelude.{◌≡◌, ◌≤◌, List, count_by, false, map}
+use Rattle.iso_locklist.specs.Places.{line_at, taken}
 use Rattle.iso_locklist.specs.declared.places.Place.{Place}
 use Rattle.iso_queue.specs.Locks as locks
 use Rattle.iso_queue.specs.Queues as queues
 use Rattle.iso_queue.specs.declared.types.Hold.{Hold}
 use Rattle.iso_queue.specs.declared.types.Waiter.{Waiter}
+use Rattle.iso_types.specs.Head.{is_conn}
 use Rattle.iso_types.specs.Ids.{conn_eq}
+use Rattle.iso_types.specs.declared.head.Head.{Head}
 use Rattle.iso_types.specs.declared.value.Conn.{Conn}
 use Rattle.iso_types.specs.declared.value.Name.{Name}
 
@@ -31,3 +33,11 @@ waits_in ps = flat_map (λ p. map (named_wait p.name) p.queue.waiters) ps
 pub record IsSingle (ps : List Place) (c : Conn) : Type 0 where
   pub holds : (n : Name) → count_by (λ h. conn_eq h.conn c) (line_at ps n).holders ≤ 1
   pub waits : count_by (λ w. conn_eq w.conn c) (waits_in ps) ≤ 1
+
+-- nobody but the head's connections holds or awaits a name
+abbrev pub IsHeads : Head → List Place → Type 0
+IsHeads head ps = (c : Conn) → is_conn head c ≡ false → taken ps c ≡ 0
+
+-- a connection that was so still is
+abbrev pub StaySingle : List Place → List Place → Type 0
+StaySingle old new = (c : Conn) → IsSingle old c → IsSingle new c

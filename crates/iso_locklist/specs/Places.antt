@@ -3,15 +3,15 @@
 use Rattle.std.specs.List.{list_any}
 use Rattle.std.specs.Option.{option_and_then, option_map, option_map_or}
 use Rattle.std.specs.Prelude.{◌≡◌, ◌<◌, ◌++◌, length, slice_get, slice_set, slice_index, map, ℕ, zero, suc, ◌+◌, Bool, true, false, not, ◌&&◌, List, [], ◌∷◌, if◌then◌else◌, nat_lt, count_by, find, Option, None, Some, Result, Ok, Err}
-use Rattle.iso_locklist.specs.declared.places.Part.{Part}
-use Rattle.iso_locklist.specs.declared.places.Part.TheVariants.{Hold, Wait}
+use Rattle.iso_locklist.specs.declared.places.Change.{Change}
+use Rattle.iso_locklist.specs.declared.places.Change.TheVariants.{Cancel, Release, Settle}
 use Rattle.iso_locklist.specs.declared.places.Place.{Place}
 use Rattle.iso_locklist.specs.declared.room.LockFault.{LockFault}
 use Rattle.iso_locklist.specs.declared.room.Room.{Room}
 use Rattle.iso_locklist.specs.declared.room.Room.TheVariants.{AtCapacity, AtShare, Free}
 use Rattle.iso_modes.specs.Modes.{covers}
 use Rattle.iso_modes.specs.declared.Mode.{Mode}
-use Rattle.iso_queue.specs.Lines.{Line, edges_of, hold_of, is_grantable, is_touched, is_waiter, unheld, unqueued, waiter_of}
+use Rattle.iso_queue.specs.Lines.{Line, edges_of, hold_of, is_grantable, is_touched, is_waiter, settled, unheld, unqueued, waiter_of}
 use Rattle.iso_queue.specs.declared.types.Asked.{Asked}
 use Rattle.iso_types.specs.Ids.{name_eq}
 use Rattle.iso_types.specs.declared.value.Conn.{Conn}
@@ -109,14 +109,19 @@ released q c = record { holders = unheld c q.holders; waiters = q.waiters }
 abbrev pub cancelled : Line → Conn → Line
 cancelled q c = record { holders = q.holders; waiters = unqueued c q.waiters }
 
--- the connection's hold goes, or its wait
-abbrev pub without : Part → Conn → Line → Line
-without Hold c q = released q c
-without Wait c q = cancelled q c
+-- the name is the one that is spared
+abbrev pub is_spared : Option Name → Name → Bool
+is_spared spare n = option_map_or (name_eq n) spare false
+
+-- the name's line after the change of the connection's part in it
+abbrev pub changed : Change → Conn → Name → Line → Line
+changed Release c n q = released q c
+changed Cancel c n q = cancelled q c
+changed (Settle spare) c n q = settled q c (is_spared spare n)
 
 -- each name's line changed
-abbrev pub each_line : (Line → Line) → List Place → List Place
-each_line f ps = map (λ p. record { name = p.name; queue = f p.queue }) ps
+abbrev pub each_line : (Name → Line → Line) → List Place → List Place
+each_line f ps = map (λ p. record { name = p.name; queue = f p.name p.queue }) ps
 
 -- the connection's wait has no edge
 abbrev pub is_grantable_in : List Place → Conn → Bool

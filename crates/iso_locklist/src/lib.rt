@@ -5,6 +5,7 @@ mod covering;
 mod list;
 mod places;
 mod room;
+mod snapshot;
 #[cfg(test)]
 mod tests;
 

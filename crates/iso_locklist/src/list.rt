@@ -1,26 +1,31 @@
-ghost use Rattle.std.specs.Prelude.{◌≡◌, ◌<◌, ◌≤◌, [], IfOk, OnOk, OnErr, false, if◌then◌else◌, count_by, filter, length, map, slice_index_or, slice_set};
-ghost use Rattle.iso_locklist.specs.Lists.{IsSingle, holds_in, named_hold, named_wait, waits_in};
-ghost use Rattle.iso_locklist.specs.Places.{IsLimited, IsSameLimits, all_taken, cancelled, each_line, edges_in, is_covered, is_grantable_in, line_at, need_of, released, room_for, taken, wait_in, without};
+ghost use Rattle.std.specs.Prelude.{◌≡◌, ◌<◌, ◌≤◌, [], IfOk, OnOk, OnErr, false, if◌then◌else◌, None, count_by, filter, length, map, slice_index_or, slice_set};
+ghost use Rattle.iso_locklist.specs.Lists.{IsHeads, IsSingle, StaySingle, holds_in, named_hold, named_wait, waits_in};
+ghost use Rattle.iso_locklist.specs.Places.{IsLimited, IsSameLimits, all_taken, cancelled, each_line, edges_in, is_covered, is_grantable_in, is_spared, line_at, need_of, released, room_for, taken, wait_in, changed};
 ghost use Rattle.iso_locklist.specs.declared.places.Place.{Place as Entry};
-ghost use Rattle.iso_queue.specs.Lines.{asked, bits_of, claimed, hold_of, is_granted, is_guarded_against, is_used, wait_for, would_wait};
-ghost use Rattle.iso_queue.specs.Locks.{hold_on, others_guard};
+ghost use Rattle.iso_queue.specs.Lines.{asked, bits_of, claimed, hold_of, is_granted, is_guarded_against, is_used, settled, wait_for, would_wait};
+ghost use Rattle.iso_queue.specs.Locks.{dropped, hold_on, others_guard, without_briefs};
 ghost use Rattle.iso_queue.specs.Limits as limits;
 ghost use Rattle.iso_queue.specs.Locks as locks;
 ghost use Rattle.iso_queue.specs.Queues as queues;
-ghost use Rattle.iso_queue.specs.Queues.{queue, wait_of};
+ghost use Rattle.iso_queue.specs.Queues.{queue, unqueued, wait_of};
+ghost use Rattle.iso_queue.specs.Snapshots.{snapshot};
 ghost use Rattle.std.specs.List.{list_any};
 ghost use Rattle.std.specs.Option.{option_map, option_map_or};
 ghost use Rattle.iso_queue.specs.declared.types.Asked.{Asked as Outcome};
 ghost use Rattle.iso_queue.specs.declared.types.Claimed.{Claimed as Answer};
 ghost use Rattle.iso_types.specs.Ids.{conn_eq, name_eq};
+ghost use Rattle.iso_types.specs.declared.value.Conn.{Conn as Who};
 ghost use Rattle.iso_types.specs.declared.value.Name.{Name as Other};
 ghost use Rattle.iso_types.specs.Head.{lock_share, lock_slots};
 
 use crate::covering::{index_tables, table_of};
-use crate::places::{Part, Place, ask, claim_all, end_at, find_place, find_wait, need, queue_of};
+use crate::places::{
+    Change, Place, ask, change_at, claim_all, find_place, find_wait, need, queue_of,
+};
 use crate::room::{LockFault, Room, room_in};
+use crate::snapshot::{in_order, list_lines};
 use iso_modes::{Mode, Term, covers};
-use iso_queue::{Asked, Claimed, Hold};
+use iso_queue::{Asked, Claimed, Hold, LockLine};
 use iso_types::{Conn, Edges, Head, Items, Memory, Name, TableId};
 use std::alloc::Global;
 use std::marker::Model;
@@ -192,6 +197,7 @@ impl LockList {
         ensures answer { IfOk result (λ a. a ≡ (if is_granted (line_at self.old.places name) conn mode then Outcome.Granted else Outcome.Queued)) }
         ensures line { OnOk result (line_at self.new.places name ≡ asked (line_at self.old.places name) conn mode term) }
         ensures others { (n : Other) → name_eq name n ≡ false → line_at self.new.places n ≡ line_at self.old.places n }
+        ensures single { wait_in self.old.places conn ≡ None → StaySingle self.old.places self.new.places }
         ensures limits { IsSameLimits self.new self.old }
         ensures err { OnErr result (self.new ≡ self.old) }
     {
@@ -218,10 +224,11 @@ impl LockList {
         requires { conn.0 < 32 }
         ensures line { line_at self.new.places name ≡ released (line_at self.old.places name) conn }
         ensures others { (n : Other) → name_eq name n ≡ false → line_at self.new.places n ≡ line_at self.old.places n }
+        ensures single { StaySingle self.old.places self.new.places }
         ensures limits { IsSameLimits self.new self.old }
     {
         if let Some(at) = find_place(&self.places, &name) {
-            self.end_at(at, conn, Part::Hold);
+            self.change_at(at, conn, &Change::Release);
         }
     }
 
@@ -230,9 +237,25 @@ impl LockList {
     pub fn release_all(&mut self, conn: Conn)
         requires { conn.0 < 32 }
         ensures lines { (n : Other) → line_at self.new.places n ≡ released (line_at self.old.places n) conn }
+        ensures holds { holds_in self.new.places ≡ dropped conn (holds_in self.old.places) }
+        ensures waits { waits_in self.new.places ≡ waits_in self.old.places }
+        ensures single { StaySingle self.old.places self.new.places }
         ensures limits { IsSameLimits self.new self.old }
     {
-        self.end_all(conn, Part::Hold);
+        self.change_all(conn, &Change::Release);
+    }
+
+    /// Each Fresh hold of the connection becomes Kept, but on the name that is spared, and then its Brief holds go; all else
+    /// stays. It takes no memory. Its cost is the number of names and of all who hold or await them.
+    pub fn settle(&mut self, conn: Conn, spare: Option<Name>)
+        requires { conn.0 < 32 }
+        ensures lines { (n : Other) → line_at self.new.places n ≡ settled (line_at self.old.places n) conn (is_spared spare n) }
+        ensures holds { holds_in self.new.places ≡ without_briefs (holds_in self.old.places) conn (locks.settled conn spare (holds_in self.old.places)) }
+        ensures waits { waits_in self.new.places ≡ waits_in self.old.places }
+        ensures single { StaySingle self.old.places self.new.places }
+        ensures limits { IsSameLimits self.new self.old }
+    {
+        self.change_all(conn, &Change::Settle(spare));
     }
 
     /// The connection's wait goes, on whatever name it waits; its holds stay. It takes no memory. Its cost is the number
@@ -240,9 +263,12 @@ impl LockList {
     pub fn cancel(&mut self, conn: Conn)
         requires { conn.0 < 32 }
         ensures lines { (n : Other) → line_at self.new.places n ≡ cancelled (line_at self.old.places n) conn }
+        ensures holds { holds_in self.new.places ≡ holds_in self.old.places }
+        ensures waits { waits_in self.new.places ≡ unqueued conn (waits_in self.old.places) }
+        ensures single { StaySingle self.old.places self.new.places }
         ensures limits { IsSameLimits self.new self.old }
     {
-        self.end_all(conn, Part::Wait);
+        self.change_all(conn, &Change::Cancel);
     }
 
     /// Grants the connection's wait where it has no edge, with what the connection held before; else nothing changes.
@@ -251,9 +277,23 @@ impl LockList {
     pub fn claim(&mut self, conn: Conn) -> Claimed
         ensures answer { result ≡ (if is_grantable_in self.old.places conn then Answer.Granted else Answer.NotYet) }
         ensures lines { (n : Other) → line_at self.new.places n ≡ claimed (line_at self.old.places n) conn }
+        ensures single { StaySingle self.old.places self.new.places }
         ensures limits { IsSameLimits self.new self.old }
     {
         claim_all(&mut self.places, conn)
+    }
+
+    /// The lines of all names that somebody holds or awaits, as a snapshot tells them: by table in order of declaration its
+    /// name, its rows by rid, then for each of its indexes the keys in order and END; at each name the holders among the
+    /// head's connections, by connection, then the waiters in queue order, so a connection that converts its lock has two
+    /// lines. `Memory`: want of memory. It sorts the names, and for each its cost is 32 times those who hold it, and the
+    /// product of those who hold it and those who await it. Db2 LUW, 'MON_GET_LOCKS'; the order is this project's own.
+    pub fn snapshot(&self, head: &Head) -> Result<Items<LockLine>, Memory>
+        requires { length head.now.conns ≤ 32 }
+        ensures { IfOk result (λ lines. lines ≡ snapshot head.now (holds_in self.now.places) (waits_in self.now.places)) }
+    {
+        let places = in_order(self.alloc, head, &self.places)?;
+        list_lines(self.alloc, head, &places)
     }
 
     /// Law: in the lists of the holds and of the waits of all names, those of the name are its holders, and its waiters in
@@ -282,6 +322,14 @@ impl LockList {
         let _ = &self.places;
     }
 
+    /// Law: where that is so of each connection, and none but those of the head, at most 32, holds or awaits a name, the
+    /// total is the sum of the counts in the lists.
+    pub fn lists_count_all_names(&self, head: &Head)
+        ensures { length head.now.conns ≤ 32 → ((c : Who) → IsSingle self.now.places c) → IsHeads head.now self.now.places → all_taken self.now.places ≡ limits.all_taken head.now (holds_in self.now.places) (waits_in self.now.places) }
+    {
+        let _ = &self.places;
+    }
+
     /// Law: the wait that is told is the connection's in the list of the waits of all names; and where it has one at most,
     /// a claim is granted where that wait has no edge in the lists, and its edges are those to its blockers there.
     pub fn lists_tell_each_wait(&self, conn: Conn)
@@ -299,26 +347,26 @@ impl LockList {
         let _ = &self.places;
     }
 
-    /// The part of the connection goes from the line at this place.
-    fn end_at(&mut self, at: usize, conn: Conn, part: Part)
+    /// Changes the connection's part in the line at this place.
+    fn change_at(&mut self, at: usize, conn: Conn, change: &Change)
         requires conn { conn.0 < 32 }
         requires at { at < length self.old.places }
-        ensures places { (p : Entry) → p ≡ slice_index_or self.old.places at p → self.new.places ≡ slice_set self.old.places at (record { name = p.name; queue = without part conn p.queue }) }
+        ensures places { (p : Entry) → p ≡ slice_index_or self.old.places at p → self.new.places ≡ slice_set self.old.places at (record { name = p.name; queue = changed change.now conn p.name p.queue }) }
         ensures limits { IsSameLimits self.new self.old }
     {
-        let freed = end_at(&mut self.places, at, conn, part);
+        let freed = change_at(&mut self.places, at, conn, change);
         self.counts[conn.0 as usize] -= freed;
         self.total -= freed;
     }
 
-    /// The part of the connection goes from each line.
-    fn end_all(&mut self, conn: Conn, part: Part)
+    /// Changes the connection's part in each line.
+    fn change_all(&mut self, conn: Conn, change: &Change)
         requires { conn.0 < 32 }
-        ensures places { self.new.places ≡ each_line (without part conn) self.old.places }
+        ensures places { self.new.places ≡ each_line (changed change.now conn) self.old.places }
         ensures limits { IsSameLimits self.new self.old }
     {
         for at in 0..self.places.len() {
-            self.end_at(at, conn, part);
+            self.change_at(at, conn, change);
         }
     }
 }

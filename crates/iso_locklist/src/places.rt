@@ -1,6 +1,6 @@
 ghost use Rattle.std.specs.Prelude.{◌≡◌, ◌+◌, ◌||◌, slice_set, ◌<◌, length, slice_index_or, IfSome, IfNone, IfOk, OnOk, OnErr, if◌then◌else◌};
 ghost use Rattle.std.specs.Option.{option_copied};
-ghost use Rattle.iso_locklist.specs.Places.{IsAbsent, IsPlaceOf, awaited, each_line, is_grantable_in, line_at, need_of, nobody, one, updated, without};
+ghost use Rattle.iso_locklist.specs.Places.{IsAbsent, IsPlaceOf, awaited, each_line, is_grantable_in, is_spared, line_at, need_of, nobody, one, updated, changed};
 ghost use Rattle.iso_locklist.specs.declared.places.Place.{Place as Entry};
 ghost use Rattle.iso_queue.specs.Lines.{asked, claimed, is_grantable, is_granted, is_touched};
 ghost use Rattle.iso_queue.specs.declared.types.Asked.{Asked as Outcome};
@@ -19,11 +19,15 @@ pub struct Place {
     pub queue: Queue,
 }
 
-/// What a connection has at a name.
-#[derive(Clone, Copy)]
-pub enum Part {
-    Hold,
-    Wait,
+/// What is done to a connection's part in the lines of names.
+#[derive(Drop)]
+pub enum Change {
+    /// Its hold goes.
+    Release,
+    /// Its wait goes.
+    Cancel,
+    /// Its Fresh hold becomes Kept, but on the name that is spared, and its Brief hold goes.
+    Settle(Option<Name>),
 }
 
 #[tactic(auto, unfolding(iso_types::specs::Ids::name_eq, iso_types::specs::Value::value_eq))]
@@ -120,34 +124,46 @@ fn freed(before: bool, after: bool) -> u32
     if before && !after { 1 } else { 0 }
 }
 
-/// The part of the connection goes.
-fn end_part(queue: &mut Queue, conn: Conn, part: Part)
-    ensures { queue.new ≡ without part conn queue.old }
+/// Whether the name is the one that is spared.
+fn spares(spare: &Option<Name>, name: &Name) -> bool
+    ensures { result ≡ is_spared spare.now name.now }
 {
-    match part {
-        Part::Hold => queue.release(conn),
-        Part::Wait => queue.cancel(conn),
+    match spare {
+        Some(spared) => same_name(name, spared),
+        None => false,
     }
 }
 
-/// The part of the connection goes; the result is the slots that it gives back.
-fn end_in(queue: &mut Queue, conn: Conn, part: Part) -> u32
-    ensures line { queue.new ≡ without part conn queue.old }
-    ensures freed { one (is_touched queue.old conn) ≡ result + one (is_touched (without part conn queue.old) conn) }
+/// Changes the connection's part in the name's line.
+fn change_line(queue: &mut Queue, name: &Name, conn: Conn, change: &Change)
+    ensures { queue.new ≡ changed change.now conn name.now queue.old }
+{
+    match change {
+        Change::Release => queue.release(conn),
+        Change::Cancel => queue.cancel(conn),
+        Change::Settle(spare) => queue.settle(conn, spares(spare, name)),
+    }
+}
+
+/// The same; the result is the slots that it gives back.
+fn change_in(queue: &mut Queue, name: &Name, conn: Conn, change: &Change) -> u32
+    ensures line { queue.new ≡ changed change.now conn name.now queue.old }
+    ensures freed { one (is_touched queue.old conn) ≡ result + one (is_touched (changed change.now conn name.now queue.old) conn) }
 {
     let before = queue.touches(conn);
-    end_part(queue, conn, part);
+    change_line(queue, name, conn, change);
     let after = queue.touches(conn);
     freed(before, after)
 }
 
 /// The same in the queue of a place.
-pub fn end_at(places: &mut Vec<Place>, at: usize, conn: Conn, part: Part) -> u32
+pub fn change_at(places: &mut Vec<Place>, at: usize, conn: Conn, change: &Change) -> u32
     requires { at < length places.old.items }
-    ensures places { (p : Entry) → p ≡ slice_index_or places.old.items at p → places.new.items ≡ slice_set places.old.items at (record { name = p.name; queue = without part conn p.queue }) }
-    ensures freed { (p : Entry) → p ≡ slice_index_or places.old.items at p → one (is_touched p.queue conn) ≡ result + one (is_touched (without part conn p.queue) conn) }
+    ensures places { (p : Entry) → p ≡ slice_index_or places.old.items at p → places.new.items ≡ slice_set places.old.items at (record { name = p.name; queue = changed change.now conn p.name p.queue }) }
+    ensures freed { (p : Entry) → p ≡ slice_index_or places.old.items at p → one (is_touched p.queue conn) ≡ result + one (is_touched (changed change.now conn p.name p.queue) conn) }
 {
-    end_in(&mut places[at].queue, conn, part)
+    let place = &mut places[at];
+    change_in(&mut place.queue, &place.name, conn, change)
 }
 
 /// Grants the connection's wait in the queue of a place, where it has no edge; the result is whether it was granted, or
@@ -163,7 +179,7 @@ fn claim_at(places: &mut Vec<Place>, at: usize, conn: Conn, before: bool) -> boo
 /// Grants the connection's wait where it has no edge.
 pub fn claim_all(places: &mut Vec<Place>, conn: Conn) -> Claimed
     ensures answer { result ≡ (if is_grantable_in places.old.items conn then Answer.Granted else Answer.NotYet) }
-    ensures places { places.new.items ≡ each_line (λ q. claimed q conn) places.old.items }
+    ensures places { places.new.items ≡ each_line (λ n q. claimed q conn) places.old.items }
 {
     let mut granted = false;
     for at in 0..places.len() {

@@ -1,8 +1,9 @@
 use crate::{LockFault, LockList, Room};
-use iso_modes::{Mode, Term};
-use iso_queue::{Asked, Claimed};
+use iso_modes::{LockState, Mode, Term};
+use iso_queue::{Asked, Claimed, LockLine};
 use iso_types::{
-    Config, Conn, Head, IndexDef, IndexId, Items, Memory, Name, Rid, TableId, Text, Value,
+    Config, Conn, ConnDef, Head, IndexDef, IndexId, Isolation, Items, Memory, Name, Rid, TableId,
+    Text, Value,
 };
 use std::alloc::Global;
 use std::test::Fail;
@@ -19,17 +20,38 @@ const OTHER: TableId = TableId(1);
 
 const INDEX: IndexId = IndexId(0);
 
-/// A head with one index, of the first table.
-fn head(alloc: Global) -> Result<Head, Memory> {
+/// The indexes of these tables.
+fn indexes(alloc: Global, tables: &[TableId]) -> Result<Items<IndexDef>, Memory> {
     let mut indexes = Items::new(alloc);
     if let Some(name) = Text::new(b"I") {
-        indexes.push(IndexDef {
-            name,
-            table: TABLE,
-            column: 0,
-            unique: false,
-        })?;
+        for table in tables {
+            indexes.push(IndexDef {
+                name,
+                table: *table,
+                column: 0,
+                unique: false,
+            })?;
+        }
     }
+    Ok(indexes)
+}
+
+/// Three connections.
+fn conns(alloc: Global) -> Result<Items<ConnDef>, Memory> {
+    let mut conns = Items::new(alloc);
+    if let Some(name) = Text::new(b"C") {
+        for _ in 0..3u32 {
+            conns.push(ConnDef {
+                name,
+                isolation: Isolation::Rs,
+            })?;
+        }
+    }
+    Ok(conns)
+}
+
+/// A head with three connections, and with an index for each of these tables.
+fn head(alloc: Global, tables: &[TableId]) -> Result<Head, Memory> {
     Ok(Head {
         config: Config {
             cur_commit: true,
@@ -39,15 +61,15 @@ fn head(alloc: Global) -> Result<Head, Memory> {
             window: 100,
         },
         tables: Items::new(alloc),
-        indexes,
+        indexes: indexes(alloc, tables)?,
         rows: Items::new(alloc),
-        conns: Items::new(alloc),
+        conns: conns(alloc)?,
     })
 }
 
 /// Room for 12 names of one connection, and 128 names of all.
 fn lock_list(alloc: Global) -> Result<LockList, Memory> {
-    let head = head(alloc)?;
+    let head = head(alloc, &[TABLE])?;
     if head.config.locklist > 4096 || head.config.maxlocks > 100 {
         return Err(Memory);
     }
@@ -145,5 +167,111 @@ fn covers_by_the_own_table_lock(rt: HostRuntime) -> Result<(), Fail> {
     for (conn, name, mode, covered) in cases {
         assert!(rt; locks.covered(conn, name, mode) == covered);
     }
+    Ok(())
+}
+
+#[test]
+fn settles_but_the_spared_name(rt: HostRuntime) -> Result<(), Fail> {
+    let Ok(mut locks) = lock_list(rt.alloc()) else {
+        return Ok(());
+    };
+    let asked = [(0, Term::Fresh), (1, Term::Fresh), (2, Term::Brief)];
+    for (rid, term) in asked {
+        let asked = locks.request(A, Name::Row(TABLE, Rid(rid)), Mode::Ns, term);
+        assert!(rt; asked == Ok(Asked::Granted));
+    }
+    locks.settle(A, Some(Name::Row(TABLE, Rid(1))));
+    for (rid, term) in [(0, Term::Kept), (1, Term::Fresh)] {
+        let held = locks.held(A, Name::Row(TABLE, Rid(rid)));
+        assert!(rt; matches!(held, Some(hold) if hold.term == term));
+    }
+    assert!(rt; locks.held(A, Name::Row(TABLE, Rid(2))).is_none());
+    assert!(rt; locks.count(A) == 2 && locks.total() == 2);
+    Ok(())
+}
+
+const SHOWN: [(Name, Conn, Mode, LockState); 12] = [
+    (Name::Table(TABLE), A, Mode::Is, LockState::Granted),
+    (Name::Row(TABLE, Rid(2)), A, Mode::Ns, LockState::Granted),
+    (Name::Row(TABLE, Rid(7)), A, Mode::Ns, LockState::Granted),
+    (Name::Row(TABLE, Rid(7)), B, Mode::U, LockState::Granted),
+    (Name::Row(TABLE, Rid(7)), B, Mode::X, LockState::Converting),
+    (Name::Row(TABLE, Rid(7)), C, Mode::Ns, LockState::Waiting),
+    (
+        Name::Key(INDEX, Value::Int(-1)),
+        A,
+        Mode::S,
+        LockState::Granted,
+    ),
+    (
+        Name::Key(INDEX, Value::Int(30)),
+        A,
+        Mode::S,
+        LockState::Granted,
+    ),
+    (Name::End(INDEX), A, Mode::S, LockState::Granted),
+    (
+        Name::Key(IndexId(2), Value::Null),
+        A,
+        Mode::S,
+        LockState::Granted,
+    ),
+    (Name::Table(OTHER), C, Mode::Is, LockState::Granted),
+    (Name::End(IndexId(1)), A, Mode::S, LockState::Granted),
+];
+
+/// Whether the lines are these, in this order.
+fn are_lines(lines: &[LockLine], shown: &[(Name, Conn, Mode, LockState)]) -> bool {
+    if lines.len() != shown.len() {
+        return false;
+    }
+    for (line, (name, conn, mode, state)) in lines.iter().zip(shown.iter()) {
+        if line.name != *name || line.conn != *conn || line.mode != *mode || line.state != *state {
+            return false;
+        }
+    }
+    true
+}
+
+/// Whether the snapshot has these lines.
+fn shows(locks: &LockList, head: &Head, shown: &[(Name, Conn, Mode, LockState)]) -> bool {
+    if head.conns.len() > 32 {
+        return false;
+    }
+    match locks.snapshot(head) {
+        Ok(lines) => are_lines(lines.as_slice(), shown),
+        Err(_) => false,
+    }
+}
+
+#[test]
+fn shows_tables_rows_keys_and_ends_in_order(rt: HostRuntime) -> Result<(), Fail> {
+    let (Ok(mut locks), Ok(head)) = (
+        lock_list(rt.alloc()),
+        head(rt.alloc(), &[TABLE, OTHER, TABLE]),
+    ) else {
+        return Ok(());
+    };
+    let held = [
+        (A, Name::End(IndexId(1)), Mode::S),
+        (A, Name::Key(IndexId(2), Value::Null), Mode::S),
+        (A, Name::End(INDEX), Mode::S),
+        (A, Name::Key(INDEX, Value::Int(30)), Mode::S),
+        (B, Name::Row(TABLE, Rid(7)), Mode::U),
+        (A, Name::Row(TABLE, Rid(7)), Mode::Ns),
+        (C, Name::Table(OTHER), Mode::Is),
+        (A, Name::Key(INDEX, Value::Int(-1)), Mode::S),
+        (C, Name::Row(OTHER, Rid(0)), Mode::Ns),
+        (A, Name::Row(TABLE, Rid(2)), Mode::Ns),
+        (A, Name::Table(TABLE), Mode::Is),
+    ];
+    assert!(rt; requests(&mut locks, &held) == Ok(11));
+    let queued = [
+        (B, Name::Row(TABLE, Rid(7)), Mode::X),
+        (C, Name::Row(TABLE, Rid(7)), Mode::Ns),
+    ];
+    assert!(rt; requests(&mut locks, &queued) == Ok(0));
+    locks.release(C, Name::Row(OTHER, Rid(0)));
+    assert!(rt; shows(&locks, &head, &SHOWN));
     Ok(())
 }

@@ -2,6 +2,7 @@ use Rattle.std.proofs.Common.{◌≡◌, ◌<◌, ◌||◌, ◌∙◌, ap, get_o
 use Rattle.std.proofs.lemmas.List.{get_or_default}
 use Rattle.iso_locklist.proofs.Parts.{blank, each_more, grantable_more, seam_get, seam_len, with_line}
 use Rattle.iso_queue.specs.Lines.{Line, claimed, is_grantable}
+use Rattle.iso_types.specs.declared.value.Name.{Name}
 use Rattle.iso_locklist.proofs.places.claim_all.Goals as goal
 
 pub loop-at-preserved : goal.loop-at-preserved
@@ -9,7 +10,7 @@ loop-at-preserved c =
     let ps = c.args.places.now.items in
     let ys = c.loop-at.places.items in
     let i = c.loop-at.at in
-    let f = (λ (q : Line). claimed q c.args.conn) in
+    let f = (λ (n : Name) (q : Line). claimed q c.args.conn) in
     let lt : i < length ps = omega (arith, c.loop-at-test.true, c.len-at-end.ensures) in
     let p = get_or ys i blank in
     let at : p ≡ get_or ys i p = get_or_default ys i blank p (seam_len (with_line f) ps ys i lt c.loop-at.invariant.places) in

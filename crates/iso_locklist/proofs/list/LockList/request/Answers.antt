@@ -6,6 +6,10 @@ use Rattle.iso_locklist.proofs.Counts.{counted, moved_name, needed}
 use Rattle.iso_locklist.proofs.Touched.{asked_other, asked_own}
 use Rattle.iso_locklist.proofs.Updates.{line_at_other, line_at_updated}
 use Rattle.iso_queue.specs.Lines.{asked, is_touched}
+use Rattle.iso_locklist.specs.Lists.{IsSingle}
+use Rattle.iso_locklist.proofs.Singles.{single_asked}
+use Rattle.std.proofs.Common.{None, subst, sym}
+use Rattle.iso_locklist.specs.Places.{wait_in}
 use Rattle.iso_locklist.proofs.list.LockList.request.Goals as goal
 
 pub invariant_of-self-2 : goal.invariant_of-self-2
@@ -34,3 +38,9 @@ returns-clause-line c =
 pub returns-clause-others : goal.returns-clause-others
 returns-clause-others c = λ n ne.
     ap (λ (ps : List Place). line_at ps n) c.in-Ok.ensures.places ∙ line_at_other _ _ n _ ne ∙ ap (λ (l : Ledger). line_at l.places n) c.self.view_is
+
+pub returns-clause-single : goal.returns-clause-single
+returns-clause-single c = λ none d is.
+    subst (λ (ps : List Place). IsSingle ps d) (sym c.in-Ok.ensures.places)
+    (single_asked c.self.inside.places.items c.args.name c.args.conn c.args.mode c.args.term d
+    (subst (λ (l : Ledger). wait_in l.places c.args.conn ≡ None) (sym c.self.view_is) none) (subst (λ (l : Ledger). IsSingle l.places d) (sym c.self.view_is) is))

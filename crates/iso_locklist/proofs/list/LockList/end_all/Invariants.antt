@@ -1,9 +1,0 @@
-use Rattle.std.proofs.Common.{◌≡◌, ◌++◌, take, drop}
-use Rattle.iso_locklist.specs.Places.{IsSameLimits, each_line, without}
-use Rattle.iso_locklist.proofs.list.LockList.end_all.Given as goal
-
-abbrev pub invariant-loop-at : goal.invariant-loop-at
-invariant-loop-at l = record {
-  places : l.self.places ≡ each_line (without l.part l.conn) (take l.at l.initial.self.places) ++ drop l.at l.initial.self.places;
-  limits : IsSameLimits l.self l.initial.self;
-}
