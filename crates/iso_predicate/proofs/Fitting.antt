@@ -1,6 +1,6 @@
 -- Rows that fit their columns, before and after a value is written.
-use Rattle.std.proofs.Common.{◌≡◌, ℕ, zero, suc, ◌<◌, Bool, true, false, List, [], ◌∷◌, length, refl, ap, arith}
-use Rattle.std.specs.Prelude.{Some, None, Option, not, ◌&&◌, slice_get, slice_set, if◌then◌else◌}
+use Rattle.std.proofs.Common.{◌≡◌, ℕ, zero, suc, Bool, true, false, List, [], ◌∷◌, length, refl, ap}
+use Rattle.std.specs.Prelude.{Some, None, not, ◌&&◌, slice_get, slice_set, if◌then◌else◌}
 use Rattle.iso_predicate.specs.Assigned.{Fault, fault_in}
 use Rattle.iso_types.specs.Head.{all_fit, fits_column, fits_kind, is_null}
 use Rattle.iso_types.specs.declared.head.Column.{Column}
@@ -36,7 +36,7 @@ all_fit-set (d ∷ ds) (w ∷ ws) zero c v e is fit =
     rw same (and_both (fits_column c v) (all_fit ds ws) fit (and_second (fits_column d w) (all_fit ds ws) e))
 all_fit-set (d ∷ ds) (w ∷ ws) (suc k) c v e is fit =
     and_both (fits_column d w) (all_fit ds (slice_set ws k v)) (and_first (fits_column d w) (all_fit ds ws) e)
-        (all_fit-set ds ws k c v (and_second (fits_column d w) (all_fit ds ws) e) is fit)
+    (all_fit-set ds ws k c v (and_second (fits_column d w) (all_fit ds ws) e) is fit)
 
 -- a value without a fault fits
 pub fits_without_fault : (c : Column) (v : Value) → fault_in c v ≡ None → fits_column c v ≡ true

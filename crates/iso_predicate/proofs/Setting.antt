@@ -7,9 +7,9 @@ use Rattle.std.proofs.lemmas.List.{drop_all}
 use Rattle.std.proofs.lemmas.Option.{slice_get_within}
 use Rattle.std.specs.List.{enumerate_from}
 use Rattle.std.specs.Option.{option_map_or}
-use Rattle.std.specs.Prelude.{◌==◌, map, Some, None, Err, Ok, Option, Result, nat_lt, slice_get, slice_index_or, slice_set, if◌then◌else◌}
+use Rattle.std.specs.Prelude.{◌==◌, map, Some, None, Err, Ok, Option, Result, nat_lt, slice_get, slice_index_or, slice_set}
 use Rattle.iso_predicate.proofs.Fitting.{and_second}
-use Rattle.iso_predicate.specs.Assigned.{Answers, Fault, are_sound, evaluated, fault_in, fault_of, first_fault, is_integer, is_sound_assignment, new_value, replaced, takes, takes_kind}
+use Rattle.iso_predicate.specs.Assigned.{Answers, Fault, are_sound, evaluated, fault_in, fault_of, is_integer, is_sound_assignment, new_value, takes, takes_kind}
 use Rattle.iso_predicate.specs.Walks.{GivesValue, names_within, set_all}
 use Rattle.iso_sql.specs.declared.statement.Expr.{Expr}
 use Rattle.iso_types.specs.declared.head.ColumnKind.{ColumnKind}
@@ -35,7 +35,7 @@ before old a rest (v ∷ vs) n lt =
 -- the first assignment writes its value
 pub first_written : (old : List Value) (a : Assignment) (rest : List Assignment) (row : List Value) (n d : ℕ) → a.column ≡ n + d
     → map (λ p. new_value old (a ∷ rest) p.0 p.1) (enumerate_from n row)
-        ≡ map (λ p. new_value old rest p.0 p.1) (enumerate_from n (slice_set row d (evaluated old a.expr)))
+    ≡ map (λ p. new_value old rest p.0 p.1) (enumerate_from n (slice_set row d (evaluated old a.expr)))
 first_written old a rest [] n d e = refl
 first_written old a rest (v ∷ vs) n zero e =
     let here : (a.column == n) ≡ true = grind arith in

@@ -10,9 +10,9 @@ use Rattle.iso_sql.specs.declared.statement.Expr.{Expr}
 use Rattle.iso_types.specs.Head.{fits_kind, is_null}
 use Rattle.iso_types.specs.declared.head.Column.{Column}
 use Rattle.iso_types.specs.declared.head.ColumnKind.{ColumnKind}
-use Rattle.iso_types.specs.declared.head.ColumnKind.TheVariants.{Bigint, Integer, Varchar}
+use Rattle.iso_types.specs.declared.head.ColumnKind.TheVariants.{Varchar}
 use Rattle.iso_types.specs.declared.value.Value.{Value}
-use Rattle.iso_types.specs.declared.value.Value.TheVariants.{Int, Null, Text}
+use Rattle.iso_types.specs.declared.value.Value.TheVariants.{Int}
 
 -- why assignments fail: -802 for a value that does not fit its column, -407 for a NULL where none may stand
 pub data Fault : Type 0 where

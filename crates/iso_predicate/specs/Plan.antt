@@ -1,7 +1,7 @@
 -- How the rows of a condition are looked for: the whole table, or a range of one of its indexes.
 -- // The choice of the index is this project's own; comparisons: Db2 LUW documentation, SQL reference: 'Predicates'
 use Rattle.std.specs.Option.{option_map_or}
-use Rattle.std.specs.Prelude.{ℕ, Bool, true, false, ◌&&◌, ◌==◌, List, [], ◌∷◌, if◌then◌else◌, slice_get, Some, None, Option}
+use Rattle.std.specs.Prelude.{ℕ, true, false, ◌&&◌, ◌==◌, List, [], ◌∷◌, if◌then◌else◌, slice_get, Some, None, Option}
 use Rattle.std.specs.declared.cmp.Ordering.{Ordering}
 use Rattle.std.specs.declared.cmp.Ordering.TheVariants.{Equal, Greater, Less}
 use Rattle.iso_predicate.specs.declared.plans.Path.{Path}

@@ -1,7 +1,7 @@
 -- Whether a condition is true of a row, in three-valued logic.
 -- // Db2 LUW documentation, SQL reference: 'Search conditions', 'Predicates', 'Assignments and comparisons'
 use Rattle.std.specs.Ordering.{is_eq, is_ge, is_gt, is_le, is_lt, is_ne}
-use Rattle.std.specs.Prelude.{ℕ, Bool, true, false, ◌&&◌, ◌||◌, List, if◌then◌else◌, nat_lt, slice_index_or}
+use Rattle.std.specs.Prelude.{ℕ, Bool, true, ◌&&◌, ◌||◌, List, if◌then◌else◌, nat_lt, slice_index_or}
 use Rattle.std.specs.declared.cmp.Ordering.{Ordering}
 use Rattle.iso_predicate.specs.declared.conditions.Truth.{Truth}
 use Rattle.iso_predicate.specs.declared.conditions.Truth.TheVariants.{False, True, Unknown}

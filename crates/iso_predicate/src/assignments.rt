@@ -49,12 +49,7 @@ pub fn nulls(table: &TableDef, row: &Row) -> bool
 /// NULL plus a number is NULL. `Memory` where there is none for the new row. The assignments have
 /// to be sound for the table, and the row has to fit it, as stored rows do. It copies the row once,
 /// and looks at each assignment once at most. Db2 LUW, 'Assignments and comparisons', 'UPDATE'.
-pub fn assign(
-    alloc: Global,
-    sets: &Sets,
-    table: &TableDef,
-    row: &Row,
-) -> Result<Row, AssignFault>
+pub fn assign(alloc: Global, sets: &Sets, table: &TableDef, row: &Row) -> Result<Row, AssignFault>
     requires sound { IsTrue (are_sound table.now.columns sets.now.list) }
     requires fits { IsTrue (all_fit table.now.columns row.now) }
     ensures row { Answers (assigned table.now.columns sets.now.list row.now) result }

@@ -9,3 +9,6 @@ mod plans;
 pub use assignments::{AssignFault, assign, nulls};
 pub use conditions::{Truth, keep};
 pub use plans::{Path, plan};
+
+#[cfg(test)]
+mod tests;
