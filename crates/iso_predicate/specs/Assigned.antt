@@ -7,7 +7,7 @@ use Rattle.iso_predicate.specs.Truth.{value_at}
 use Rattle.iso_predicate.specs.declared.assignments.AssignFault.{AssignFault}
 use Rattle.iso_sql.specs.declared.statement.Assignment.{Assignment}
 use Rattle.iso_sql.specs.declared.statement.Expr.{Expr}
-use Rattle.iso_types.specs.Head.{fits_kind, is_null}
+use Rattle.iso_types.specs.Head.{all_fit, fits_kind, is_null}
 use Rattle.iso_types.specs.declared.head.Column.{Column}
 use Rattle.iso_types.specs.declared.head.ColumnKind.{ColumnKind}
 use Rattle.iso_types.specs.declared.head.ColumnKind.TheVariants.{Varchar}
@@ -99,3 +99,14 @@ are_sound columns sets = list_all (is_sound_assignment columns) sets
 -- a column that is NOT NULL has a NULL
 abbrev pub has_null : List Column → List Value → Bool
 has_null columns row = list_any (λ p. p.0.required && is_null p.1) (zip columns row)
+
+-- the expression reads a column
+abbrev pub reads_column : Expr → Bool
+reads_column (Expr.Literal v) = false
+reads_column _ = true
+
+-- a sound assignment to a row that fits overflows only where it sets an integer column from a column
+abbrev pub OverflowIsOfNumbers : List Column → Assignment → List Value → Type 0
+OverflowIsOfNumbers columns a row =
+    is_sound_assignment columns a ≡ true → all_fit columns row ≡ true → fault_of columns row a ≡ Some Overflow
+    → (reads_column a.expr ≡ true) × (option_map_or (λ column. is_integer column.kind) (slice_get columns a.column) false ≡ true)

@@ -2,3 +2,4 @@ pub mod Truth
 pub mod Assigned
 pub mod Walks
 pub mod Plan
+pub mod Bounded

@@ -113,8 +113,8 @@ fn fits_number(kind: ColumnKind, n: i64) -> bool
     ensures { result ≡ typing.fits_kind kind (value.Int n) }
 {
     match kind {
-        ColumnKind::Integer => -2147483648 <= n && n <= 2147483647,
-        ColumnKind::Bigint => i64::MIN <= n && n <= i64::MAX,
+        ColumnKind::Integer => i32::try_from(n).is_ok(),
+        ColumnKind::Bigint => true,
         ColumnKind::Varchar(_) => false,
     }
 }

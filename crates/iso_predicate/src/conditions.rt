@@ -15,8 +15,8 @@ pub enum Truth {
 
 /// Whether the condition is true of the row; false where it is unknown, as well as where it is
 /// false. Texts compare by their bytes, a proper prefix first. Each column that the condition names
-/// has to be in the row. It takes no memory, and looks at each part of the condition once at most.
-/// Db2 LUW, 'Search conditions'.
+/// has to be in the row. It takes no memory, copies no value, and looks at each part of the condition
+/// once. Db2 LUW, 'Search conditions'.
 pub fn keep(cond: &Condition, row: &Row) -> bool
     requires { IsTrue (is_within (length row.now) cond.now) }
     ensures { IsTrue result ↔ (truth row.now cond.now ≡ Truth.True) }
@@ -39,6 +39,7 @@ fn judged(cond: &Condition, row: &Row) -> Truth
     }
 }
 
+/// The value of a column, which is not copied.
 pub fn cell(row: &Row, column: u8) -> &Value
     requires { column < length row.now }
     ensures { result.now ≡ value_at row.now column }
@@ -69,6 +70,7 @@ fn lies_between(value: &Value, low: &Value, high: &Value) -> Truth
     tested(Op::Ge, value, low).and(tested(Op::Le, value, high))
 }
 
+/// Whether the value is NULL.
 pub fn is_missing(value: &Value) -> bool
     ensures { result ≡ is_null value.now }
 {

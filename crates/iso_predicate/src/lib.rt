@@ -4,10 +4,12 @@
 
 mod assignments;
 mod conditions;
+mod laws;
 mod plans;
 
 pub use assignments::{AssignFault, assign, nulls};
 pub use conditions::{Truth, keep};
+pub use laws::{only_numbers_overflow, paths_miss_no_row};
 pub use plans::{Path, plan};
 
 #[cfg(test)]
