@@ -1,0 +1,5 @@
+pub mod Fitting
+pub mod Setting
+pub mod Paths
+pub mod Bounded
+pub mod Overflows

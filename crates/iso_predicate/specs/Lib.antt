@@ -1,0 +1,5 @@
+pub mod Truth
+pub mod Assigned
+pub mod Walks
+pub mod Plan
+pub mod Bounded
