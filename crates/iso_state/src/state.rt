@@ -28,7 +28,7 @@ impl State {
     /// The state of the empty history over a copy of the head; `Memory` where there is none.
     /// It copies all that the head declares.
     pub fn new(alloc: Global, head: &Head) -> Result<State, Memory>
-        requires rows { head.now.rows ≡ [] }
+        requires tables { length head.now.tables ≤ 16 }
         requires conns { length head.now.conns ≤ 32 }
         ensures head { IfOk result (λ s. s.head ≡ head.now) }
         ensures history { IfOk result (λ s. s.history ≡ []) }
