@@ -13,3 +13,4 @@ pub mod LexLemmas
 pub mod LineLemmas
 pub mod ScriptLaws
 pub mod Numbers
+pub mod Folds

@@ -6,3 +6,4 @@ pub mod Cursor
 pub mod Lines
 pub mod Script
 pub mod Values
+pub mod Faults

@@ -1,6 +1,11 @@
 -- What the bytes of a token say.
-use Rattle.std.specs.Prelude.{ℕ, ◌+◌, ◌-◌, ◌*◌, ◌&&◌, if◌then◌else◌, ◌==◌, nat_le, List, [], ◌∷◌, length, take, drop, map, ℤ, pos, negsuc, neg_ℤ, int_le, Option, Some, None}
+use Rattle.std.specs.Option.{option_map}
+use Rattle.std.specs.Prelude.{ℕ, Bool, true, false, not, ◌+◌, ◌-◌, ◌*◌, ◌&&◌, if◌then◌else◌, ◌==◌, nat_le, List, [], ◌∷◌, length, take, drop, map, ℤ, pos, negsuc, neg_ℤ, int_le, Option, Some, None}
 use Rattle.std.specs.Char.{to_ascii_uppercase}
+use Rattle.iso_types.specs.declared.value.Value.{Value}
+use Rattle.iso_types.specs.declared.value.Value.TheVariants as value
+use Rattle.iso_grammar.specs.declared.token.Kind.{Kind}
+use Rattle.iso_grammar.specs.declared.token.Kind.TheVariants as k
 use Rattle.iso_grammar.specs.declared.token.Token.{Token}
 
 -- the token's bytes in its line
@@ -32,3 +37,31 @@ integer bytes = fitted (signed bytes)
 -- at most so much
 abbrev pub at_most : ℕ → ℕ → Option ℕ
 at_most most n = if nat_le n most then Some n else None
+
+-- What a text says behind its opening quote: a doubled quote is one. The test says that the byte before is a quote that may close it.
+abbrev pub said : Bool → List ℕ → List ℕ
+said closes [] = []
+said closes (b ∷ bs) = if b == 39 && not closes then said true bs else b ∷ said false bs
+
+-- all but the first byte
+abbrev pub behind_first : List ℕ → List ℕ
+behind_first [] = []
+behind_first (b ∷ bs) = bs
+
+-- a text, of at most 32 bytes
+abbrev pub short : List ℕ → Option (List ℕ)
+short bytes = if nat_le (length bytes) 32 then Some bytes else None
+
+-- what a text token says, where it has at most 32 bytes
+unfoldable pub text : List ℕ → Option (List ℕ)
+text bytes = short (said false (behind_first bytes))
+
+-- what a literal's bytes say, by its kind
+abbrev pub literal : Kind → List ℕ → Option Value
+literal k.Null bytes = Some value.Null
+literal k.Text bytes = option_map value.Text (text bytes)
+literal _ bytes = option_map value.Int (integer bytes)
+
+-- the value of a literal, where its text has at most 32 bytes and its integer at most 64 bits
+unfoldable pub value_of : List ℕ → Token → Option Value
+value_of line t = literal t.kind (text_of line t)

@@ -1,10 +1,10 @@
 //! What the bytes of a token say.
 
-ghost use Rattle.std.specs.Prelude.{◌≡◌, ◌≤◌, length, IfSome};
+ghost use Rattle.std.specs.Prelude.{◌≡◌, ◌≤◌, length, IfSome, false};
 ghost use Rattle.iso_grammar.specs.Values as spec;
 
-use crate::token::Token;
-use iso_types::Text;
+use crate::token::{Kind, Token};
+use iso_types::{Text, Value};
 
 /// The token's bytes in its line.
 #[tactic(auto, unfolding(crate::specs::Values::text_of))]
@@ -67,5 +67,52 @@ pub fn integer(bytes: &[u8]) -> Option<i64>
                 i64::try_from(value).ok()
             }
         }
+    }
+}
+
+/// What a text token says, its quotes taken off and doubled ones single; None exactly where that has more than 32 bytes.
+#[tactic(auto, unfolding(crate::specs::Values::text))]
+pub fn text(bytes: &[u8]) -> Option<Text>
+    ensures { result ≡ spec.text bytes.now }
+{
+    match bytes {
+        [] => Text::new(bytes),
+        [_, rest @ ..] => said(rest),
+    }
+}
+
+fn said(mut rest: &[u8]) -> Option<Text>
+    ensures { result ≡ spec.short (spec.said false rest.entry.now) }
+{
+    let mut cells = [0; 32];
+    let mut len = 0;
+    let mut closes = false;
+    while let [b, more @ ..] = rest {
+        if *b == b'\'' && !closes {
+            closes = true;
+        } else {
+            if len == 32 {
+                return None;
+            }
+            cells[len] = *b;
+            len += 1;
+            closes = false;
+        }
+        rest = more;
+    }
+    Text::new(&cells[..len])
+}
+
+/// The value of a literal token: NULL, a text of at most 32 bytes, or an integer of 64 bits; None exactly where it is
+/// longer or larger.
+#[tactic(auto, unfolding(crate::specs::Values::value_of))]
+pub fn value_of(line: &[u8], token: Token) -> Option<Value>
+    ensures { result ≡ spec.value_of line.now token }
+{
+    let bytes = text_of(line, token);
+    match token.kind {
+        Kind::Null => Some(Value::Null),
+        Kind::Text => text(bytes).map(Value::Text),
+        _ => integer(bytes).map(Value::Int),
     }
 }
