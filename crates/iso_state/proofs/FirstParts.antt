@@ -1,10 +1,13 @@
 -- The first parts stand for the empty history.
-use Rattle.std.proofs.Common.{◌≡◌, ◌<◌, ◌+◌, ℕ, zero, suc, Bool, true, false, List, [], ◌∷◌, ◌++◌, length, map, refl, ap, ◌∙◌, Some, Option, filter, take, get_or, if◌then◌else◌}
+use Rattle.std.proofs.Common.{◌≡◌, ◌<◌, ◌+◌, ℕ, zero, suc, Bool, true, false, List, [], ◌∷◌, ◌++◌, length, map, refl, ap, ◌∙◌, Some, Option, filter, take, get_or, if◌then◌else◌, ◌&&◌, nat_lt, subst, arith}
 use Rattle.std.specs.Prelude.{cond, slice_index_or}
-use Rattle.std.proofs.lemmas.List.{length-map, map-append}
+use Rattle.std.specs.List.{list_all, range_with_len}
+use Rattle.std.proofs.lemmas.Bool.{eqb-true}
+use Rattle.std.proofs.lemmas.Bool.Decides.{nat_tests}
+use Rattle.std.proofs.lemmas.List.{get_or_past, length-map, map-append}
 use Rattle.std.proofs.lemmas.List.Elements.{filter_more}
-use Rattle.std.proofs.lemmas.List.FromFn.{length-map-range_with_len}
-use Rattle.iso_types.specs.Head.{rows_of, tables as tables_of}
+use Rattle.std.proofs.lemmas.List.FromFn.{get_or-map-range_with_len, length-map-range_with_len}
+use Rattle.iso_types.specs.Head.{row_fits, rows_of, tables as tables_of}
 use Rattle.iso_types.specs.Ids.{table_eq}
 use Rattle.iso_types.specs.declared.desk.Desk.{Desk}
 use Rattle.iso_types.specs.declared.desk.Phase.TheVariants.{Idle}
@@ -18,7 +21,16 @@ use Rattle.iso_history.specs.Legal.{Ground, GroundFrom}
 use Rattle.iso_history.specs.declared.entry.Entry.{Entry}
 use Rattle.iso_history.specs.Versions.{first_version, present}
 use Rattle.iso_state.specs.Firsts.{first_content, first_desk}
-use Rattle.iso_state.specs.Stands.{AreOf, Stands, no_desk}
+use Rattle.iso_state.specs.Stands.{AreOf, RowsFit, Stands, no_desk}
+
+-- a conjunction gives both
+pub first-of : (a b : Bool) → (a && b) ≡ true → a ≡ true
+first-of true b h = refl
+first-of false b h = h
+
+pub second-of : (a b : Bool) → (a && b) ≡ true → b ≡ true
+second-of true b h = h
+second-of false b h = absurd (cc)
 
 -- the table with this number
 abbrev pub table_number : ℕ → TableId
@@ -62,6 +74,37 @@ all-idle [] k = refl
 all-idle (d ∷ ds) zero = refl
 all-idle (d ∷ ds) (suc k) = all-idle ds k
 
+-- the head's rows of a table fit it
+first-fit : (head : Head) (t : TableId) (rows : List FirstRow) → list_all (λ f. row_fits head f.table f.row) rows ≡ true
+    → list_all (row_fits head t) (map (λ f. f.row) (filter (λ f. table_eq f.table t) rows)) ≡ true
+first-fit head t [] h = refl
+first-fit head t (f ∷ fs) h = go (table_eq f.table t) refl (first-fit head t fs (second-of (row_fits head f.table f.row) _ h))
+  where
+    place : ℕ → TableId
+    place x = record { 0 = x }
+
+    go : (b : Bool) → table_eq f.table t ≡ b → list_all (row_fits head t) (map (λ f. f.row) (filter (λ f. table_eq f.table t) fs)) ≡ true
+        → list_all (row_fits head t) (map (λ f. f.row) (filter (λ f. table_eq f.table t) (f ∷ fs))) ≡ true
+    go true e rest =
+        let is : f.table ≡ t = ap place (eqb-true f.table.0 t.0 e) in
+        let fits : row_fits head t f.row ≡ true = subst (λ (u : TableId). row_fits head u f.row ≡ true) is (first-of (row_fits head f.table f.row) _ h) in
+        rw e (rw (fits, rest) refl)
+    go false e rest = rw e rest
+
+-- and so in all tables
+first-all-fit : (head : Head) → list_all (λ f. row_fits head f.table f.row) head.rows ≡ true → RowsFit head (map (rows_of head) (tables_of head))
+first-all-fit head h t = go (nat_lt t.0 (length head.tables)) refl
+  where
+    at-number : ℕ → List (List Value)
+    at-number k = rows_of head (table_number k)
+
+    go : (b : Bool) → nat_lt t.0 (length head.tables) ≡ b → list_all (row_fits head t) (get_or (map (rows_of head) (tables_of head)) t.0 []) ≡ true
+    go true e = rw (← rows-of-numbers head (range_with_len 0 (length head.tables)))
+        (rw (get_or-map-range_with_len at-number 0 (length head.tables) t.0 t.0 [] (grind (arith, nat_tests, e)) (omega arith)) (first-fit head t head.rows h))
+    go false e =
+        let long : length (map (rows_of head) (tables_of head)) ≡ length head.tables = length-map (tables_of head) (rows_of head) ∙ length-map-range_with_len _ 0 (length head.tables) in
+        rw (get_or_past (map (rows_of head) (tables_of head)) t.0 [] (grind (arith, nat_tests, e, long))) refl
+
 first-parts : (head : Head) → AreOf (start head) (first_content head)
 first-parts head = record {
   tables = first-slots head (tables_of head);
@@ -69,12 +112,13 @@ first-parts head = record {
   waits = refl;
 }
 
-pub first-stands : (head : Head) → Stands (first_content head)
+pub first-stands : (head : Head) → list_all (λ f. row_fits head f.table f.row) head.rows ≡ true → Stands (first_content head)
 unfolding world world_from Ground GroundFrom
-first-stands head = record {
+first-stands head fit = record {
   parts = first-parts head;
   conns = length-map head.conns first_desk;
   wide = length-map (tables_of head) (rows_of head) ∙ length-map-range_with_len _ 0 (length head.tables);
+  fit = first-all-fit head fit;
   ground = tt;
 }
 

@@ -1,6 +1,10 @@
 -- The parts after a look.
-use Rattle.std.proofs.Common.{◌≡◌, ◌<◌, ◌≤◌, ℕ, Bool, true, false, List, [], length, map, refl, ap, sym, ◌∙◌, arith, Some, None, Option, get_or, if◌then◌else◌}
-use Rattle.std.specs.Prelude.{nat_lt, slice_get}
+use Rattle.std.proofs.Common.{◌≡◌, ◌<◌, ◌≤◌, ℕ, zero, suc, subst, Bool, true, false, List, [], ◌∷◌, length, map, refl, ap, sym, ◌∙◌, arith, Some, None, Option, if◌then◌else◌}
+use Rattle.std.specs.List.{list_all}
+use Rattle.std.specs.Option.{option_copied, option_map_or}
+use Rattle.std.specs.Prelude.{nat_lt, slice_get, IfSome}
+use Rattle.std.specs.Borrow.{Bor}
+use Rattle.iso_state.proofs.FirstParts.{first-of, second-of}
 use Rattle.std.proofs.lemmas.Bool.Decides.{nat_tests}
 use Rattle.std.proofs.lemmas.Option.{slice_get-get_or, slice_get_past}
 use Rattle.iso_types.specs.Head.{is_table}
@@ -31,6 +35,17 @@ use Rattle.iso_state.proofs.Tables.{no-row, row-is, slots-are}
 -- a table of the head, as a test
 pub table-is : (head : Head) (t : TableId) → t.0 < length head.tables → is_table head t ≡ true
 table-is head t lt = grind (arith, nat_tests)
+
+-- what is found passes the test that all pass
+found-passes : {X : Type 0} (p : X → Bool) (xs : List X) (k : ℕ) (x : X) → slice_get xs k ≡ Some x → list_all p xs ≡ true → p x ≡ true
+found-passes p [] k x h all = absurd (cc)
+found-passes p (y ∷ ys) zero x h all = subst (λ (z : Option _). option_map_or p z false ≡ true) h (first-of (p y) (list_all p ys) all)
+found-passes p (y ∷ ys) (suc k) x h all = found-passes p ys k x h (second-of (p y) (list_all p ys) all)
+
+pub got-passes : {X : Type 0} (p : X → Bool) (xs : List X) (k : ℕ) (r : Option (Bor X)) → option_copied r ≡ slice_get xs k
+    → list_all p xs ≡ true → IfSome r (λ x. p x.now ≡ true)
+got-passes p xs k None h all = tt
+got-passes p xs k (Some b) h all = found-passes p xs k b.now (sym h) all
 
 module _ (w : World) (tables : List (List (List Value))) (shown : map (map present) w.tables ≡ map (map Some) tables) where
   pub looked-is : (t : TableId) (r : Rid) → looked_at tables t r ≡ looked_of w t r

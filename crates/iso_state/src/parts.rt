@@ -1,5 +1,6 @@
-ghost use Rattle.std.specs.Prelude.{◌≡◌, ◌≤◌, [], length, map, IfOk};
-ghost use Rattle.iso_types.specs.Head.{rows_of, tables as tables_of};
+ghost use Rattle.std.specs.List.{list_all};
+ghost use Rattle.std.specs.Prelude.{◌≡◌, ◌≤◌, true, [], length, map, IfOk};
+ghost use Rattle.iso_types.specs.Head.{row_fits, rows_of, tables as tables_of};
 ghost use Rattle.iso_state.specs.Firsts.{first_content, first_desk};
 ghost use Rattle.iso_state.specs.Stands.{StandsFor, content_of};
 
@@ -69,6 +70,7 @@ impl Parts {
     pub fn new(alloc: Global, head: &Head) -> Result<Parts, Memory>
         requires tables { length head.now.tables ≤ 16 }
         requires conns { length head.now.conns ≤ 32 }
+        requires fit { list_all (λ f. row_fits head.now f.table f.row) head.now.rows ≡ true }
         ensures stands { IfOk result (λ p. StandsFor p) }
         ensures head { IfOk result (λ p. p.head ≡ head.now) }
         ensures content { IfOk result (λ p. content_of p ≡ first_content head.now) }

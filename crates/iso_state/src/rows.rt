@@ -1,5 +1,5 @@
 ghost use Rattle.std.specs.Option.{option_copied};
-ghost use Rattle.std.specs.Prelude.{◌≡◌, ◌≤◌, ◌<◌, ◌↔◌, ◌++◌, [], ◌∷◌, length, slice_set, false, IsTrue, IfOk, OnOk, OnErr};
+ghost use Rattle.std.specs.Prelude.{◌≡◌, ◌≤◌, ◌<◌, ◌↔◌, ◌++◌, [], ◌∷◌, length, slice_set, true, false, IsTrue, IfOk, IfSome, OnOk, OnErr};
 ghost use Rattle.iso_types.specs.Head.{row_fits};
 ghost use Rattle.iso_types.specs.declared.desk.Phase.TheVariants.{Running};
 ghost use Rattle.iso_history.specs.Makers.{by_agent};
@@ -18,11 +18,12 @@ use iso_types::{Conn, Items, Memory, Rid, Row, Rows, TableId};
 use std::alloc::Global;
 
 /// The present row of a slot, whether its maker has committed or not; None where the slot shows no row, or is not
-/// there. Constant time, and no copy. Db2 LUW, 'Uncommitted read (UR)'.
+/// there. It fits its table. Constant time, and no copy. Db2 LUW, 'Uncommitted read (UR)'.
 pub fn row_at(parts: &Parts, table: TableId, rid: Rid) -> Option<&Row>
     requires stands { StandsFor parts.now }
     requires table { table.0 < length parts.now.head.tables }
-    ensures { option_copied result ≡ present (versions (world_of parts.now) table rid) }
+    ensures present { option_copied result ≡ present (versions (world_of parts.now) table rid) }
+    ensures fits { IfSome result (λ row. row_fits parts.now.head table row.now ≡ true) }
 {
     parts.tables.as_slice()[table.0 as usize].get(rid.0 as usize)
 }

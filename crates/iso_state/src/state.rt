@@ -1,4 +1,6 @@
-ghost use Rattle.std.specs.Prelude.{◌≡◌, ◌≤◌, [], length, IfOk};
+ghost use Rattle.std.specs.List.{list_all};
+ghost use Rattle.std.specs.Prelude.{◌≡◌, ◌≤◌, true, [], length, IfOk};
+ghost use Rattle.iso_types.specs.Head.{row_fits};
 ghost use Rattle.iso_state.specs.Stands.{StandsFor};
 ghost use Rattle.iso_state.specs.Tale.{tale_of};
 
@@ -30,6 +32,7 @@ impl State {
     pub fn new(alloc: Global, head: &Head) -> Result<State, Memory>
         requires tables { length head.now.tables ≤ 16 }
         requires conns { length head.now.conns ≤ 32 }
+        requires fit { list_all (λ f. row_fits head.now f.table f.row) head.now.rows ≡ true }
         ensures head { IfOk result (λ s. s.head ≡ head.now) }
         ensures history { IfOk result (λ s. s.history ≡ []) }
     {

@@ -1,7 +1,6 @@
-use Rattle.std.proofs.Common.{◌≡◌, ℕ, map}
+use Rattle.std.proofs.Common.{◌≡◌, map}
 use Rattle.std.specs.List.{range_with_len}
 use Rattle.iso_types.specs.Head.{rows_of}
-use Rattle.iso_types.specs.declared.value.TableId.{TableId}
 use Rattle.iso_state.proofs.FirstParts.{table_number}
 use Rattle.iso_state.proofs.parts.first_tables.Given as goal
 

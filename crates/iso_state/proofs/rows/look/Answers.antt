@@ -1,9 +1,8 @@
-use Rattle.std.proofs.Common.{◌≡◌, ◌∙◌, [], ◌∷◌, ◌++◌, List, ap, sym, subst}
-use Rattle.iso_types.specs.declared.value.Value.{Value}
+use Rattle.std.proofs.Common.{◌≡◌, ◌∙◌, [], ◌∷◌, ◌++◌, ap, sym, subst}
 use Rattle.iso_history.specs.Makers.{by_agent}
 use Rattle.iso_history.specs.declared.entry.Act.{Act}
 use Rattle.iso_state.specs.Changes.{noted}
-use Rattle.iso_state.specs.Looks.{look_act, looked_at, looked_of}
+use Rattle.iso_state.specs.Looks.{look_act, looked_at}
 use Rattle.iso_state.specs.Stands.{Content, Stands, content_of, world_of}
 use Rattle.iso_state.proofs.LookSteps.{act-found, look-stands, looked-is}
 use Rattle.iso_state.proofs.rows.look.Goals as goal
