@@ -1,0 +1,3 @@
+pub mod Fitting
+pub mod Setting
+pub mod Paths

@@ -1,0 +1,4 @@
+pub mod Truth
+pub mod Assigned
+pub mod Walks
+pub mod Plan

@@ -1,0 +1,11 @@
+//! What conditions, assignments and rows come to: whether a row meets a condition, the row that
+//! assignments make of it, whether a required column is NULL, and the index that a condition uses.
+#![tactic(auto)]
+
+mod assignments;
+mod conditions;
+mod plans;
+
+pub use assignments::{AssignFault, assign, nulls};
+pub use conditions::{Truth, keep};
+pub use plans::{Path, plan};
