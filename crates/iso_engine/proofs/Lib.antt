@@ -3,7 +3,6 @@ pub mod Turns
 pub mod Ends
 pub mod Lines
 pub mod Fitting
-pub mod Kept
 pub mod Carry
 pub mod Looks
 pub mod Start
