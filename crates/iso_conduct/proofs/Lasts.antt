@@ -14,18 +14,18 @@ use Rattle.iso_types.specs.declared.head.Head.{Head}
 use Rattle.iso_types.specs.declared.value.Conn.{Conn}
 
 -- one entry is next
-next_one : (w : World) (o : Option Point) (a b : Act) → IsNext w o a → IsNext w o b → a ≡ b
-next_one w None a b p q = absurd p
-next_one w (Some x) a b p q = cc
+next_one : (head : Head) (w : World) (o : Option Point) (a b : Act) → IsNext head w o a → IsNext head w o b → a ≡ b
+next_one head w None a b p q = absurd p
+next_one head w (Some x) a b p q = cc
 
-pub may_one : (p : Phase) (lines : List Line) (w : World) (c : Conn) (o : Option Point) (a b : Act)
-    → MayIn p lines w c o a → MayIn p lines w c o b → a ≡ b
-may_one phases.Running lines w c o a b m n = next_one w (opened lines w c o) a b m n
-may_one phases.Closing lines w c o a b m n = cc
-may_one phases.Idle lines w c o a b m n = absurd m
-may_one phases.Waiting lines w c o a b m n = absurd m
-may_one phases.Rolling lines w c o a b m n = absurd m
-may_one phases.Ended lines w c o a b m n = absurd m
+pub may_one : (p : Phase) (head : Head) (lines : List Line) (w : World) (c : Conn) (o : Option Point) (a b : Act)
+    → MayIn p head lines w c o a → MayIn p head lines w c o b → a ≡ b
+may_one phases.Running head lines w c o a b m n = next_one head w (opened lines w c o) a b m n
+may_one phases.Closing head lines w c o a b m n = cc
+may_one phases.Idle head lines w c o a b m n = absurd m
+may_one phases.Waiting head lines w c o a b m n = absurd m
+may_one phases.Rolling head lines w c o a b m n = absurd m
+may_one phases.Ended head lines w c o a b m n = absurd m
 
 -- others' entries leave the point
 pub left_by_others : (lines : List Line) (w : World) (c : Conn) (o : Option Point) (e : Entry) → is_by c e.who ≡ false

@@ -22,7 +22,7 @@ unfolding point world
 point-snoc head lines c es e = point_from-snoc head lines (start head) c None es e
 
 ConductFrom-snoc : (head : Head) (lines : List Line) (w : World) (c : Conn) (o : Option Point) (es : List Entry) (e : Entry)
-    → ConductFrom head lines w c o es → Does lines (world_from head w es) c (point_from head lines w c o es) e
+    → ConductFrom head lines w c o es → Does head lines (world_from head w es) c (point_from head lines w c o es) e
     → ConductFrom head lines w c o (es ++ e ∷ [])
 unfolding point_from world_from ConductFrom
 ConductFrom-snoc head lines w c o [] e g d = (d, tt)
@@ -30,7 +30,7 @@ ConductFrom-snoc head lines w c o (x ∷ xs) e g d =
     (g.0, ConductFrom-snoc head lines (after head w x) c (point_after lines w c o x) xs e g.1 d)
 
 pub Conduct-snoc : (head : Head) (lines : List Line) (c : Conn) (es : List Entry) (e : Entry)
-    → Conduct head lines es c → Does lines (world head es) c (point head lines es c) e → Conduct head lines (es ++ e ∷ []) c
+    → Conduct head lines es c → Does head lines (world head es) c (point head lines es c) e → Conduct head lines (es ++ e ∷ []) c
 unfolding point world Conduct
 Conduct-snoc head lines c es e g d = ConductFrom-snoc head lines (start head) c None es e g d
 

@@ -6,7 +6,7 @@ use Rattle.iso_history.specs.After.{after, start}
 use Rattle.iso_history.specs.Phases.{phase}
 use Rattle.iso_history.specs.World.{World}
 use Rattle.iso_history.specs.declared.entry.Act.{Act}
-use Rattle.iso_history.specs.declared.entry.Act.TheVariants.{Commit, Reply}
+use Rattle.iso_history.specs.declared.entry.Act.TheVariants.{Commit, Reply, Rollback}
 use Rattle.iso_history.specs.declared.entry.Entry.{Entry}
 use Rattle.iso_history.specs.declared.entry.Who.{Who}
 use Rattle.iso_history.specs.declared.entry.Who.TheVariants.{Agent, Dispatcher}
@@ -31,6 +31,7 @@ opened lines w c None = option_map start_point (statement_at lines (w.line c))
 abbrev pub ends : Act → Bool
 ends (Reply code changed rows) = true
 ends Commit = true
+ends (Rollback code reason) = true
 ends Act.Ended = true
 ends _ = false
 
@@ -39,23 +40,23 @@ abbrev pub moved : List Line → World → Conn → Option Point → Act → Opt
 moved lines w c o a = if ends a then None else option_map (λ p. told w c p a) (opened lines w c o)
 
 -- the own entry is the next one at this point
-abbrev pub IsNext : World → Option Point → Act → Type 0
-IsNext w None a = ⊥
-IsNext w (Some p) a = made w p ≡ Some a
+abbrev pub IsNext : Head → World → Option Point → Act → Type 0
+IsNext head w None a = ⊥
+IsNext head w (Some p) a = made head w p ≡ Some a
 
 -- a running connection makes the next entry of its statement, a closing one its Ended
-abbrev pub MayIn : Phase → List Line → World → Conn → Option Point → Act → Type 0
-MayIn Running lines w c o a = IsNext w (opened lines w c o) a
-MayIn Closing lines w c o a = a ≡ Act.Ended
-MayIn _ lines w c o a = ⊥
+abbrev pub MayIn : Phase → Head → List Line → World → Conn → Option Point → Act → Type 0
+MayIn Running head lines w c o a = IsNext head w (opened lines w c o) a
+MayIn Closing head lines w c o a = a ≡ Act.Ended
+MayIn _ head lines w c o a = ⊥
 
 -- the point after any entry; others' entries leave it
 abbrev pub point_after : List Line → World → Conn → Option Point → Entry → Option Point
 point_after lines w c o e = if is_by c e.who then moved lines w c o e.act else o
 
 -- where the entry is the connection's own, it is one that it may make
-abbrev pub Does : List Line → World → Conn → Option Point → Entry → Type 0
-Does lines w c o e = IsTrue (is_by c e.who) → MayIn (phase w c) lines w c o e.act
+abbrev pub Does : Head → List Line → World → Conn → Option Point → Entry → Type 0
+Does head lines w c o e = IsTrue (is_by c e.who) → MayIn (phase w c) head lines w c o e.act
 
 -- the point after a list of entries
 unfoldable pub point_from : Head → List Line → World → Conn → Option Point → List Entry → Option Point
@@ -66,7 +67,7 @@ point_from head lines w c o (e ∷ es) = point_from head lines (after head w e) 
 unfoldable pub ConductFrom : Head → List Line → World → Conn → Option Point → List Entry → Type 0
 ConductFrom head lines w c o [] = Unit {0}
 ConductFrom head lines w c o (e ∷ es) =
-    Does lines w c o e × ConductFrom head lines (after head w e) c (point_after lines w c o e) es
+    Does head lines w c o e × ConductFrom head lines (after head w e) c (point_after lines w c o e) es
 
 -- the point that the history reaches
 unfoldable pub point : Head → List Line → List Entry → Conn → Option Point

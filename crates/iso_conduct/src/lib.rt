@@ -4,4 +4,6 @@
 
 mod laws;
 
-pub use laws::{finished_takes_all_lines, one_entry_is_next, others_leave_the_point};
+pub use laws::{
+    finished_is_whole, finished_takes_all_lines, one_entry_is_next, others_leave_the_point,
+};

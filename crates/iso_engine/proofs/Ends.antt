@@ -1,9 +1,9 @@
 -- The entries that end a statement, and those that end the run.
-use Rattle.std.proofs.Common.{◌≡◌, ℕ, Bool, true, false, List, [], ◌∷◌, ◌++◌, refl, sym, subst, ap, Option, Some, None, is_some, IsTrue, length, arith, ℤ}
+use Rattle.std.proofs.Common.{◌≡◌, ℕ, Bool, true, false, List, [], ◌∷◌, ◌++◌, refl, sym, subst, ap, Option, Some, None, is_some, IsTrue, length, arith, ℤ, ◌≤◌}
 use Rattle.std.proofs.lemmas.Bool.{ltb-true}
 use Rattle.iso_conduct.specs.Conduct.{Conduct}
 use Rattle.iso_conduct.specs.Legal.{IsLegal}
-use Rattle.iso_conduct.specs.Points.{reply_of, select_code, select_rows}
+use Rattle.iso_conduct.specs.Points.{reply_of, reply_with, select_code, select_rows}
 use Rattle.iso_conduct.specs.Points.Part.{Answer, Settles}
 use Rattle.iso_engine.proofs.Ways.{idle-snoc, rests, shuts, way-snoc}
 use Rattle.iso_engine.specs.UnderWay.{IsClosing, IsIdle, IsOver, IsRunning, IsSoFar, IsUnderWay, ends_unit, first_conn}
@@ -34,11 +34,11 @@ use Rattle.iso_types.specs.declared.value.Value.{Value}
 
 -- the statement's reply
 pub replied-on : (head : Head) (lines : List Line) (es : List Entry) (s : Statement) (r : ℕ) (kept : List (List Value)) (left : List Line)
-    (code : ℤ) (changed : ℕ) (rows : List (List Value))
-    → length head.conns ≡ 1 → ends_unit s ≡ false → reply_of s kept ≡ Reply code changed rows
-    → IsRunning head lines es (record { statement = s; left = Answer ∷ []; rid = r; kept = kept }) left
+    (refused : Option ℤ) (code : ℤ) (changed : ℕ) (rows : List (List Value))
+    → length head.conns ≡ 1 → ends_unit s ≡ false → reply_with refused s kept ≡ Reply code changed rows
+    → IsRunning head lines es (record { statement = s; left = Answer ∷ []; rid = r; kept = kept; refused = refused }) left
     → IsIdle head lines (es ++ by_agent first_conn (Reply code changed rows) ∷ []) left
-replied-on head lines es s r kept left code changed rows one goes is i =
+replied-on head lines es s r kept left refused code changed rows one goes is i =
     idle-snoc head lines es (by_agent first_conn (Reply code changed rows)) left
     (way-snoc head lines es left (by_agent first_conn (Reply code changed rows)) i.way
     (rw i.way.open_ refl, (rw one refl, i.runs.running))
@@ -71,7 +71,7 @@ settles false false false false s u h g = rw g refl
 -- the unit of work is committed
 pub committed-on : (head : Head) (lines : List Line) (es : List Entry) (r : ℕ) (kept : List (List Value)) (left : List Line)
     → length head.conns ≡ 1
-    → IsRunning head lines es (record { statement = Statement.Commit; left = Settles ∷ []; rid = r; kept = kept }) left
+    → IsRunning head lines es (record { statement = Statement.Commit; left = Settles ∷ []; rid = r; kept = kept; refused = None }) left
     → IsIdle head lines (es ++ by_agent first_conn Commit ∷ []) left
 committed-on head lines es r kept left one i =
     idle-snoc head lines es (by_agent first_conn Commit) left
@@ -122,9 +122,9 @@ over-on head lines es one i = record {
   over = rw world-snoc (rw one refl);
 }
 
--- the one connection is the first
-the_first : (head : Head) (c : Conn) → length head.conns ≡ 1 → IsTrue (is_conn head c) → first_conn ≡ c
-the_first head c one h = let z : c.0 ≡ 0 = omega (arith, ltb-true c.0 (length head.conns) h, one) in ap (λ n. record { 0 = n }) (sym z)
+-- the only connection is the first
+the_first : (head : Head) (c : Conn) → length head.conns ≤ 1 → IsTrue (is_conn head c) → first_conn ≡ c
+the_first head c few h = let z : c.0 ≡ 0 = omega (arith, ltb-true c.0 (length head.conns) h, few) in ap (λ n. record { 0 = n }) (sym z)
 
 -- a run that is under way is legal so far
 pub so-far : (head : Head) (lines : List Line) (es : List Entry) (left : List Line) → IsUnderWay head lines es left → IsSoFar head lines es
@@ -132,12 +132,16 @@ so-far head lines es left u = record { ground = u.ground; conduct = u.conduct; p
 
 -- and its history is legal
 pub legal-of : (script : Script) (es : List Entry)
-    → length script.head.conns ≡ 1 → IsSoFar script.head script.lines es → IsLegal script es
-legal-of script es one u = record {
+    → length script.head.conns ≤ 1 → IsSoFar script.head script.lines es → IsLegal script es
+legal-of script es few u = record {
   ground = u.ground;
-  conduct = λ c h. subst (λ d. Conduct script.head script.lines es d) (the_first script.head c one h) u.conduct;
+  conduct = λ c h. subst (λ d. Conduct script.head script.lines es d) (the_first script.head c few h) u.conduct;
   paced = u.paced;
 }
+
+-- without a connection all have ended
+pub over-bare : (head : Head) (lines : List Line) (es : List Entry) → length head.conns ≡ 0 → IsIdle head lines es [] → IsOver head lines es
+over-bare head lines es none i = record { way = i.way; over = rw none refl }
 
 -- the history is finished
 pub finished-on : (head : Head) (lines : List Line) (es : List Entry) → IsOver head lines es
@@ -149,10 +153,10 @@ finished-on head lines es i = record {
 }
 
 -- a query's reply
-pub query_reply : (t : TableId) (items : Items2) (level : Option Isolation) (kept rows : List (List Value)) (code : ℤ)
+pub query_reply : (t : TableId) (items : Items2) (cond : Condition) (level : Option Isolation) (kept rows : List (List Value)) (code : ℤ)
     → code ≡ select_code items kept → rows ≡ select_rows items kept
-    → reply_of (Statement.Select t items Condition.Always level) kept ≡ Reply code 0 rows
-query_reply t items level kept rows code e f = rw (e, f) refl
+    → reply_of (Statement.Select t items cond level) kept ≡ Reply code 0 rows
+query_reply t items cond level kept rows code e f = rw (e, f) refl
 
 -- a query's code is read back from its 32 bits
 pub code_back : (items : Items2) (kept : List (List Value)) (z : ℤ) → z ≡ select_code items kept

@@ -2,6 +2,7 @@ pub mod Ways
 pub mod Turns
 pub mod Ends
 pub mod Lines
+pub mod Fitting
 pub mod Carry
 pub mod Looks
 pub mod Start

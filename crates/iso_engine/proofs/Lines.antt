@@ -11,7 +11,7 @@ use Rattle.iso_history.specs.declared.entry.Act.TheVariants.{Dispatch}
 use Rattle.iso_history.specs.declared.entry.Entry.{Entry}
 use Rattle.iso_engine.specs.Runnable.{CanRun}
 use Rattle.iso_engine.specs.UnderWay.{IsIdle, IsRunning, first_conn}
-use Rattle.iso_script.specs.Built.{is_built_line, is_built_statement, is_built_what, is_first}
+use Rattle.iso_script.specs.Built.{is_built_line, is_built_what, is_first}
 use Rattle.iso_script.specs.Numbered.{rises_above}
 use Rattle.iso_script.specs.declared.script.Line.{Line}
 use Rattle.iso_script.specs.declared.script.What.{What}
@@ -19,11 +19,12 @@ use Rattle.iso_sql.specs.declared.statement.Statement.{Statement}
 use Rattle.iso_types.specs.declared.head.Head.{Head}
 use Rattle.iso_types.specs.declared.value.Conn.{Conn}
 
-first_of : (a b : Bool) → (a && b) ≡ true → a ≡ true
+-- a conjunction gives both
+pub first_of : (a b : Bool) → (a && b) ≡ true → a ≡ true
 first_of true b h = refl
 first_of false b h = h
 
-second_of : (a b : Bool) → (a && b) ≡ true → b ≡ true
+pub second_of : (a b : Bool) → (a && b) ≡ true → b ≡ true
 second_of true b h = h
 second_of false b h = absurd (cc)
 
@@ -88,9 +89,9 @@ taken head lines es k l s can within there asks idle =
     (subst (λ x. IsIdle head lines es (x ∷ drop (k + 1) lines)) (sym there)
     (subst (λ ls. IsIdle head lines es ls) (rw add-one (drop-cons lines k l within)) idle))
 
--- its statement is of this stage
+-- its statement is of this stage, and the head allows it
 pub built_at : (head : Head) (lines : List Line) (k : ℕ) (l : Line) (s : Statement) → CanRun head lines → k < length lines
-    → l ≡ get_or lines k l → l.what ≡ What.Statement s → is_built_statement head s ≡ true
+    → l ≡ get_or lines k l → l.what ≡ What.Statement s → is_built_what head (What.Statement s) ≡ true
 built_at head lines k l s can within there asks =
     let whole : is_built_line head (get_or lines k l) ≡ true = at_all (is_built_line head) lines k l within can.built in
     let here : is_built_line head l ≡ true = subst (λ x. is_built_line head x ≡ true) (sym there) whole in

@@ -8,7 +8,8 @@ use Rattle.iso_engine.specs.UnderWay.{IsRunning, IsUnderWay, first_conn}
 use Rattle.iso_history.proofs.Snoc.{world-snoc}
 use Rattle.iso_history.specs.After.{world}
 use Rattle.iso_history.specs.Makers.{by_agent}
-use Rattle.iso_history.specs.Versions.{slots}
+use Rattle.iso_conduct.specs.Points.{looked}
+use Rattle.iso_history.specs.Versions.{present, slots, versions}
 use Rattle.iso_history.specs.declared.entry.Act.TheVariants.{Look}
 use Rattle.iso_history.specs.declared.entry.Entry.{Entry}
 use Rattle.iso_history.specs.declared.entry.Got.{Got}
@@ -28,6 +29,11 @@ slots-looked : (head : Head) (es : List Entry) (t : TableId) (r : Rid) (u : Tabl
     → slots (world head (es ++ by_agent first_conn (Look t r Dirty Got.Granted) ∷ [])) u ≡ slots (world head es) u
 slots-looked head es t r u = rw world-snoc refl
 
+-- and what they show
+versions-looked : (head : Head) (es : List Entry) (t : TableId) (r : Rid) (u : TableId) (q : Rid)
+    → versions (world head (es ++ by_agent first_conn (Look t r Dirty Got.Granted) ∷ [])) u q ≡ versions (world head es) u q
+versions-looked head es t r u q = rw world-snoc refl
+
 -- the history after a look goes on as its answer says
 looks-at : (head : Head) (lines : List Line) (es : List Entry) (s : Statement) (t : TableId) (r : Rid) (kept : List (List Value)) (left : List Line)
     → length head.conns ≡ 1 → is_table head t ≡ true → IsRunning head lines es (scanning s t r.0 kept) left
@@ -37,7 +43,8 @@ looks-at head lines es s t r kept left one table i = go (nat_lt r.0 (slots (worl
     go : (b : Bool) → nat_lt r.0 (slots (world head es) t) ≡ b
         → GoesOn head lines (es ++ by_agent first_conn (look_act (world head es) t r) ∷ []) s t r.0 kept left (looked_of (world head es) t r)
     go true h = rw h (
-      looked-on head lines es s t _ r.0 kept left one table h i,
+      subst (λ v. IsRunning head lines (es ++ by_agent first_conn (Look t r Dirty Got.Granted) ∷ []) (looked (scanning s t r.0 kept) (present v)) left)
+          (sym (versions-looked head es t r t r)) (looked-on head lines es s t _ r.0 kept left one table h i),
       subst (λ n. r.0 + 1 ≤ n) (sym (slots-looked head es t r t)) (omega (arith, ltb-true r.0 (slots (world head es) t) h)),
     )
     go false h = rw h (ended-on head lines es s t _ r.0 kept left one table h i)
@@ -56,7 +63,7 @@ looks head k lines es fs s t r kept left a one table i same is answer =
 -- the run is under way after it
 pub goes-way : (head : Head) (lines : List Line) (es : List Entry) (s : Statement) (t : TableId) (r : ℕ) (kept : List (List Value))
     (left : List Line) (a : Looked) → GoesOn head lines es s t r kept left a → IsUnderWay head lines es left
-goes-way head lines es s t r kept left (Looked.Shown o) g = g.0.way
+goes-way head lines es s t r kept left Looked.Shown g = g.0.way
 goes-way head lines es s t r kept left Looked.EndOfTable g = g.way
 
 -- a fact of the value of an Ok, from another and a fact of all

@@ -10,7 +10,10 @@ use Rattle.iso_history.specs.Legal.{are_resting}
 use Rattle.iso_history.specs.Looks.{shown}
 use Rattle.iso_history.specs.Makers.{by_agent, by_dispatcher}
 use Rattle.iso_history.specs.Versions.{next_rid, slots}
-use Rattle.iso_history.specs.declared.entry.Act.TheVariants.{Dispatch, Insert, Look, ScanEnd}
+use Rattle.iso_history.specs.Writes.{minus}
+use Rattle.iso_predicate.specs.Assigned.{has_null}
+use Rattle.iso_sql.specs.Sound.{columns_of}
+use Rattle.iso_history.specs.declared.entry.Act.TheVariants.{Dispatch, Insert, Look, Refused, ScanEnd}
 use Rattle.iso_history.specs.declared.entry.Entry.{Entry}
 use Rattle.iso_history.specs.declared.entry.Got.{Got}
 use Rattle.iso_history.specs.declared.entry.Want.TheVariants.{Dirty}
@@ -73,7 +76,7 @@ looked-statement p (Some row) = refl
 
 -- the point within a scan
 abbrev pub scanning : Statement → TableId → List Part → ℕ → List (List Value) → Point
-scanning s t parts r kept = record { statement = s; left = Scan t ∷ parts; rid = r; kept = kept }
+scanning s t parts r kept = record { statement = s; left = Scan t ∷ parts; rid = r; kept = kept; refused = None }
 
 -- the scan looks at a slot
 pub looked-on : (head : Head) (lines : List Line) (es : List Entry) (s : Statement) (t : TableId) (parts : List Part) (r : ℕ)
@@ -102,7 +105,7 @@ pub ended-on : (head : Head) (lines : List Line) (es : List Entry) (s : Statemen
     → length head.conns ≡ 1 → is_table head t ≡ true → nat_lt r (slots (world head es) t) ≡ false
     → IsRunning head lines es (scanning s t parts r kept) left
     → IsRunning head lines (es ++ by_agent first_conn (ScanEnd t (slots (world head es) t)) ∷ [])
-    (record { statement = s; left = parts; rid = r; kept = kept }) left
+    (record { statement = s; left = parts; rid = r; kept = kept; refused = None }) left
 ended-on head lines es s t parts r kept left one table past i =
     running-snoc head lines es (by_agent first_conn (ScanEnd t (slots (world head es) t))) _ left
     (way-snoc head lines es left (by_agent first_conn (ScanEnd t (slots (world head es) t))) i.way
@@ -120,15 +123,37 @@ ended-on head lines es s t parts r kept left one table past i =
 -- the new row is inserted
 pub inserted-on : (head : Head) (lines : List Line) (es : List Entry) (s : Statement) (t : TableId) (row : List Value) (parts : List Part)
     (r : ℕ) (kept : List (List Value)) (left : List Line)
-    → length head.conns ≡ 1 → is_table head t ≡ true → row_fits head t row ≡ true → nat_lt (slots (world head es) t) 65536 ≡ true
-    → IsRunning head lines es (record { statement = s; left = NewRow t row ∷ parts; rid = r; kept = kept }) left
+    → length head.conns ≡ 1 → is_table head t ≡ true → row_fits head t row ≡ true → has_null (columns_of head t) row ≡ false
+    → nat_lt (slots (world head es) t) 65536 ≡ true
+    → IsRunning head lines es (record { statement = s; left = NewRow t row ∷ parts; rid = r; kept = kept; refused = None }) left
     → IsRunning head lines (es ++ by_agent first_conn (Insert t (next_rid (world head es) t) row) ∷ [])
-    (record { statement = s; left = parts; rid = r; kept = kept }) left
-inserted-on head lines es s t row parts r kept left one table fits room i =
+    (record { statement = s; left = parts; rid = r; kept = kept; refused = None }) left
+inserted-on head lines es s t row parts r kept left one table fits whole room i =
     running-snoc head lines es (by_agent first_conn (Insert t (next_rid (world head es) t) row)) _ left
     (way-snoc head lines es left (by_agent first_conn (Insert t (next_rid (world head es) t) row)) i.way
     (rw i.way.open_ refl, (rw one refl, (i.runs.running, (table, fits, refl, room))))
-    (λ h. rw (i.runs.running, i.runs.opened_) refl)
+    (λ h. rw (i.runs.running, i.runs.opened_, whole) refl)
+    tt
+    i.way.open_)
+    (record {
+      running = i.runs.running;
+      opened_ = rw i.runs.opened_ refl;
+      unit = i.runs.unit;
+      closed = i.runs.closed;
+    })
+
+-- the new row is refused
+pub refused-on : (head : Head) (lines : List Line) (es : List Entry) (s : Statement) (t : TableId) (row : List Value) (parts : List Part)
+    (r : ℕ) (kept : List (List Value)) (left : List Line)
+    → length head.conns ≡ 1 → has_null (columns_of head t) row ≡ true
+    → IsRunning head lines es (record { statement = s; left = NewRow t row ∷ parts; rid = r; kept = kept; refused = None }) left
+    → IsRunning head lines (es ++ by_agent first_conn (Refused (minus 407)) ∷ [])
+    (record { statement = s; left = parts; rid = r; kept = kept; refused = Some (minus 407) }) left
+refused-on head lines es s t row parts r kept left one null i =
+    running-snoc head lines es (by_agent first_conn (Refused (minus 407))) _ left
+    (way-snoc head lines es left (by_agent first_conn (Refused (minus 407))) i.way
+    (rw i.way.open_ refl, (rw one refl, (i.runs.running, refl)))
+    (λ h. rw (i.runs.running, i.runs.opened_, null) refl)
     tt
     i.way.open_)
     (record {

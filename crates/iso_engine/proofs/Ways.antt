@@ -21,7 +21,7 @@ use Rattle.iso_types.specs.declared.head.Head.{Head}
 pub way-snoc : (head : Head) (lines : List Line) (es : List Entry) (left : List Line) (e : Entry)
     → IsUnderWay head lines es left
     → Allowed head (world head es) e
-    → Does lines (world head es) first_conn (point head lines es first_conn) e
+    → Does head lines (world head es) first_conn (point head lines es first_conn) e
     → Paces head (world head es) left e.who e.act
     → (pace_by (world head es).pace e.who e.act).finished ≡ false
     → IsUnderWay head lines (es ++ e ∷ []) (lines_after left e.who e.act)

@@ -6,9 +6,8 @@ use Rattle.iso_script.specs.Numbered.{rises_above}
 use Rattle.iso_script.specs.declared.script.Line.{Line}
 use Rattle.iso_types.specs.declared.head.Head.{Head}
 
--- one connection and one table, lines of this stage, numbers that rise
+-- one connection, lines of this stage, numbers that rise
 pub record CanRun (head : Head) (lines : List Line) : Type 0 where
   pub conns : length head.conns ≡ 1
-  pub tables : length head.tables ≡ 1
   pub built : list_all (is_built_line head) lines ≡ true
   pub rising : rises_above 0 lines ≡ true

@@ -1,19 +1,20 @@
-ghost use Rattle.std.specs.Prelude.{◌≡◌, ◌<◌, ◌+◌, drop, length, slice_index_or, true, [], Some, None, IfOk, OnOk};
+ghost use Rattle.std.specs.List.{list_all};
+ghost use Rattle.std.specs.Prelude.{◌≡◌, ◌<◌, ◌≤◌, ◌+◌, drop, length, slice_index_or, true, [], Some, None, IfOk, OnOk};
 ghost use Rattle.iso_conduct.specs.Legal.{IsFinished, IsLegal};
 ghost use Rattle.iso_conduct.specs.Points.{start_point};
 ghost use Rattle.iso_engine.specs.Runnable.{CanRun};
 ghost use Rattle.iso_engine.specs.UnderWay.{IsIdle, IsRunning, IsSoFar, IsUnderWay};
-ghost use Rattle.iso_script.specs.Built.{IsBuilt, is_built_statement};
+ghost use Rattle.iso_script.specs.Built.{IsBuilt, is_built_line, is_built_what};
 ghost use Rattle.iso_script.specs.Numbered.{rises_above};
 ghost use Rattle.iso_script.specs.declared.script.What.{What as Asks};
 ghost use Rattle.iso_state.specs.Stands.{StandsFor};
 
 use crate::insertion::run_insertion;
 use crate::query::{Query, run_query};
-use crate::serial::{FIRST, run_commit, run_end};
+use crate::serial::{FIRST, finish_it, run_commit, run_end};
 use iso_history::History;
 use iso_script::{Line, Script, What};
-use iso_sql::{Condition, Statement};
+use iso_sql::Statement;
 use iso_state::{Parts, dispatch};
 use iso_types::Memory;
 use std::alloc::Global;
@@ -28,7 +29,7 @@ fn run_statement(
 ) -> Result<(), Memory>
     requires can { CanRun parts.old.head lines.now }
     requires stands { StandsFor parts.old }
-    requires built { is_built_statement parts.old.head statement.now ≡ true }
+    requires built { is_built_what parts.old.head (Asks.Statement statement.now) ≡ true }
     requires runs { IsRunning parts.old.head lines.now parts.old.history.items (start_point statement.now) (drop left lines.now) }
     ensures stands { StandsFor parts.new }
     ensures head { parts.new.head ≡ parts.old.head }
@@ -40,12 +41,13 @@ fn run_statement(
         Statement::Select {
             table,
             items,
-            cond: Condition::Always,
+            cond,
             level,
         } => {
             let query = Query {
                 table: *table,
                 items,
+                cond,
                 level: *level,
             };
             run_query(alloc, parts, lines, left, &query)
@@ -113,6 +115,24 @@ fn run_lines(alloc: Global, parts: &mut Parts, lines: &[Line]) -> Result<(), Mem
     run_end(parts, lines)
 }
 
+/// Runs all lines, and ends the run. A script without a connection has no line.
+fn run_all(alloc: Global, parts: &mut Parts, lines: &[Line]) -> Result<(), Memory>
+    requires conns { length parts.old.head.conns ≤ 1 }
+    requires manned { length parts.old.head.conns ≡ 0 → lines.now ≡ [] }
+    requires built { list_all (is_built_line parts.old.head) lines.now ≡ true }
+    requires rising { rises_above 0 lines.now ≡ true }
+    requires stands { StandsFor parts.old }
+    requires idle { IsIdle parts.old.head lines.now parts.old.history.items lines.now }
+    ensures head { parts.new.head ≡ parts.old.head }
+    ensures legal { IsSoFar parts.new.head lines.now parts.new.history.items }
+    ensures ok { OnOk result (IsFinished parts.new.history.items) }
+{
+    if parts.head.conns.len() == 0 {
+        return finish_it(parts, lines);
+    }
+    run_lines(alloc, parts, lines)
+}
+
 /// Runs a script on one thread, without a schedule seed: the dispatcher and then the connections in order make an
 /// entry each where they are able, round after round. The history is legal. It ends with Finish, or where it
 /// stood when memory was wanting; `Memory` comes only before the first entry. It takes time for each entry.
@@ -123,6 +143,6 @@ pub fn run_serial(alloc: Global, script: &Script, seed: Option<u64>) -> Result<H
     ensures legal { IfOk result (λ h. IsLegal script.now h.items) }
 {
     let mut parts = Parts::new(alloc, &script.head)?;
-    let _ = run_lines(alloc, &mut parts, script.lines.as_slice());
+    let _ = run_all(alloc, &mut parts, script.lines.as_slice());
     Ok(parts.history)
 }

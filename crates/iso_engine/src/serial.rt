@@ -52,6 +52,18 @@ fn end_it(parts: &mut Parts, lines: &[Line]) -> Result<(), Memory>
     ended(parts, FIRST)
 }
 
+/// Finishes the history, where there is no connection to close.
+pub fn finish_it(parts: &mut Parts, lines: &[Line]) -> Result<(), Memory>
+    requires bare { length parts.old.head.conns ≡ 0 }
+    requires stands { StandsFor parts.old }
+    requires idle { IsIdle parts.old.head lines.now parts.old.history.items [] }
+    ensures head { parts.new.head ≡ parts.old.head }
+    ensures legal { IsSoFar parts.new.head lines.now parts.new.history.items }
+    ensures ok { OnOk result (IsFinished parts.new.history.items) }
+{
+    finish(parts)
+}
+
 /// Closes the connection, ends it and finishes the history, once no line is left.
 pub fn run_end(parts: &mut Parts, lines: &[Line]) -> Result<(), Memory>
     requires can { CanRun parts.old.head lines.now }

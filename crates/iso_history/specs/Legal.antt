@@ -1,6 +1,6 @@
 -- Which entry may stand on a world, as far as the head and the history say, and Ground.
--- At this stage a history has Dispatch, Close, Finish, Look, ScanEnd, Insert, Commit, Reply and Ended alone. What locks, the
--- log's limit, indexes, other connections and the history's limit add comes with them, to the fact named after its kind.
+-- At this stage a history has Dispatch, Close, Finish, Look, ScanEnd, Insert, Refused, Commit, Reply and Ended alone. What locks,
+-- the log's limit, indexes, other connections and the history's limit add comes with them, to the fact named after its kind.
 use Rattle.std.specs.List.{list_all}
 use Rattle.std.specs.Prelude.{◌≡◌, ℕ, Bool, false, not, ◌&&◌, List, [], ◌∷◌, IsTrue, Some, nat_lt}
 use Rattle.iso_history.specs.After.{after, start}
@@ -9,8 +9,9 @@ use Rattle.iso_history.specs.Quiet.{all_ended, is_resting, least_idle}
 use Rattle.iso_history.specs.Records.{left_of}
 use Rattle.iso_history.specs.Versions.{next_rid, slots}
 use Rattle.iso_history.specs.World.{World}
+use Rattle.iso_history.specs.Writes.{minus}
 use Rattle.iso_history.specs.declared.entry.Act.{Act}
-use Rattle.iso_history.specs.declared.entry.Act.TheVariants.{Close, Commit, Dispatch, Finish, Insert, Look, Reply, ScanEnd}
+use Rattle.iso_history.specs.declared.entry.Act.TheVariants.{Close, Commit, Dispatch, Finish, Insert, Look, Refused, Reply, ScanEnd}
 use Rattle.iso_history.specs.declared.entry.Entry.{Entry}
 use Rattle.iso_history.specs.declared.entry.Got.{Got}
 use Rattle.iso_history.specs.declared.entry.Want.{Want}
@@ -39,11 +40,12 @@ abbrev pub InsertStands : Head → World → TableId → Rid → List Value → 
 InsertStands head w t r row =
     IsTrue (is_table head t) × IsTrue (row_fits head t row) × (r ≡ next_rid w t) × IsTrue (nat_lt (slots w t) 65536)
 
--- an agent's entry
+-- an agent's entry; the one refusal of this stage is that of a NULL where none may stand. // Db2 LUW, SQLCODE -407
 abbrev pub ByAgent : Head → World → Conn → Act → Type 0
 ByAgent head w c (Look t r want got) = Runs w c × LookStands head w t r want got
 ByAgent head w c (ScanEnd t n) = Runs w c × IsTrue (is_table head t) × (n ≡ slots w t)
 ByAgent head w c (Insert t r row) = Runs w c × InsertStands head w t r row
+ByAgent head w c (Refused code) = Runs w c × (code ≡ minus 407)
 ByAgent head w c Commit = Runs w c
 ByAgent head w c (Reply code changed rows) = Runs w c
 ByAgent head w c Act.Ended = (phase w c ≡ Closing) × (left_of w c ≡ [])

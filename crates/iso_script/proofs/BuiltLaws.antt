@@ -11,13 +11,19 @@ use Rattle.iso_types.specs.declared.head.Head.{Head}
 use Rattle.iso_types.specs.declared.head.Column.{Column}
 use Rattle.iso_types.specs.declared.head.TableDef.{TableDef}
 use Rattle.iso_types.specs.declared.value.Value.{Value}
-use Rattle.iso_types.specs.Head.{row_fits}
+use Rattle.iso_sql.specs.Sound.{are_stored, columns_of, comparisons, comparisons_at, is_typed, sound_at}
+use Rattle.iso_sql.specs.declared.statement.Condition.TheFolds.{fold-roll-Condition}
+use Rattle.iso_sql.specs.declared.statement.Condition.TheOpen.{Condition-F}
+use Rattle.iso_sql.specs.declared.statement.Condition.TheVariants.{rolls-Always}
+use Rattle.iso_sql.specs.declared.statement.Condition.TheVariants as Condition
+use Rattle.iso_script.specs.declared.script.What.{What}
+use Rattle.iso_types.specs.Head.{all_fit, fits_column, fits_kind, is_null, is_table, row_fits}
 use Rattle.iso_sql.specs.declared.statement.Statement.{Statement}
 use Rattle.iso_sql.specs.declared.statement.Statement.TheVariants as statement
 use Rattle.iso_grammar.specs.declared.token.Token.{Token}
 use Rattle.iso_grammar.specs.Lex.{is_skipped, tokens}
 use Rattle.iso_grammar.specs.Lines as text
-use Rattle.iso_script.specs.Built.{IsBuilt, is_built_statement, is_built_line, is_open_behind, is_commit}
+use Rattle.iso_script.specs.Built.{IsBuilt, is_built_what, is_built_line, is_open_behind, is_commit}
 use Rattle.iso_script.specs.declared.script.Line.{Line}
 use Rattle.iso_script.specs.declared.script.Script.{Script}
 use Rattle.iso_script.specs.declared.reader.Event.{Event}
@@ -93,15 +99,42 @@ of_stated script line a x e p = go (knows_connection script.head line a && nat_l
     go true None is q = absurd (none_is e q)
     go false x is q = absurd (none_is e q)
 
-insert-built : (head : Head) (line : List ℕ) (t : Token) (vs : List Token) (st : Statement) → Some st ≡ inserted head line t vs → is_built_statement head st ≡ true
+-- the head allows the statement, and it has a form of this stage
+abbrev is_good : Head → Statement → Bool
+is_good head s = is_built_what head (What.Statement s)
+
+and_left : (a b : Bool) → (a && b) ≡ true → a ≡ true
+and_left true b e = refl
+and_left false b e = e
+
+stored : (cs : List Column) (vs : List Value) → all_fit cs vs ≡ true → are_stored cs vs ≡ true
+stored [] [] e = refl
+stored (c ∷ cs) (v ∷ vs) e =
+    let kind = and_left (fits_kind c.kind v) (not (c.required && is_null v)) (and_left (fits_column c v) (all_fit cs vs) e) in
+    rw kind (stored cs vs (and_right (fits_column c v) (all_fit cs vs) e))
+stored [] (v ∷ vs) e = absurd cc
+stored (c ∷ cs) [] e = absurd cc
+
+there : (head : Head) (d : TableDef) → slice_get head.tables 0 ≡ Some d → is_table head table0 ≡ true
+there head d is = lt-ltb 0 (length head.tables) (slice_get_within head.tables 0 d is)
+
+insert-good : (head : Head) (row : List Value) → row_fits head table0 row ≡ true → is_good head (statement.Insert table0 row) ≡ true
+insert-good head row fits = go (slice_get head.tables 0) refl fits
+  where
+    go : (o : Option TableDef) → slice_get head.tables 0 ≡ o → option_map_or (λ d. all_fit d.columns row) o false ≡ true
+        → (is_table head table0 && are_stored (columns_of head table0) row) ≡ true
+    go (Some d) is q = rw (there head d is, is, stored d.columns row q) refl
+    go None is q = absurd (false_true q)
+
+insert-built : (head : Head) (line : List ℕ) (t : Token) (vs : List Token) (st : Statement) → Some st ≡ inserted head line t vs → is_good head st ≡ true
 unfolding inserted
 insert-built head line t vs st p = go (knows_table head line t) (all_some (map (value_of line) vs)) p
   where
-    fit : (row : List Value) (b : Bool) → row_fits head table0 row ≡ b → Some st ≡ cond b (Some (statement.Insert table0 row)) None → is_built_statement head st ≡ true
-    fit row true is q = ap (is_built_statement head) (some_is st (statement.Insert table0 row) q) ∙ is
+    fit : (row : List Value) (b : Bool) → row_fits head table0 row ≡ b → Some st ≡ cond b (Some (statement.Insert table0 row)) None → is_good head st ≡ true
+    fit row true is q = ap (is_good head) (some_is st (statement.Insert table0 row) q) ∙ insert-good head row is
     fit row false is q = absurd (none_is st q)
 
-    go : (b : Bool) (o : Option (List Value)) → Some st ≡ cond b (inserting head o) None → is_built_statement head st ≡ true
+    go : (b : Bool) (o : Option (List Value)) → Some st ≡ cond b (inserting head o) None → is_good head st ≡ true
     go true (Some row) q = fit row (row_fits head table0 row) refl q
     go true None q = absurd (none_is st q)
     go false o q = absurd (none_is st q)
@@ -125,12 +158,26 @@ place_within : (o : Option TableDef) (line : List ℕ) (c : Token) (at : ℕ) �
 place_within None line c at e = absurd (none_is at (sym e))
 place_within (Some d) line c at e = column_within d.columns line c at (found_passes (is_column d.columns line c) places at e)
 
-select-built : (head : Head) (line : List ℕ) (c t : Token) (st : Statement) → Some st ≡ selected head line c t → is_built_statement head st ≡ true
+typed-always : (cs : List Column) → is_typed cs Condition.Always ≡ true
+typed-always cs = ap (is_typed cs) (sym rolls-Always) ∙ fold-roll-Condition Bool (sound_at cs) Condition-F.Always
+
+none-compared : comparisons Condition.Always ≡ 0
+none-compared = ap comparisons (sym rolls-Always) ∙ fold-roll-Condition ℕ comparisons_at Condition-F.Always
+
+select-good : (head : Head) (at : ℕ) → nat_lt at (option_map_or (λ d. length d.columns) (slice_get head.tables 0) 0) ≡ true → is_good head (selecting at) ≡ true
+select-good head at within = go (slice_get head.tables 0) refl within
+  where
+    go : (o : Option TableDef) → slice_get head.tables 0 ≡ o → nat_lt at (option_map_or (λ d. length d.columns) o 0) ≡ true
+        → is_good head (selecting at) ≡ true
+    go (Some d) is q = rw (there head d is, is, q, typed-always d.columns, none-compared) refl
+    go None is q = absurd (let z : at < 0 = ltb-true at 0 q in omega (arith, z))
+
+select-built : (head : Head) (line : List ℕ) (c t : Token) (st : Statement) → Some st ≡ selected head line c t → is_good head st ≡ true
 unfolding selected place_of
 select-built head line c t st p = go (knows_table head line t) (place_among (slice_get head.tables 0) line c) refl p
   where
-    go : (b : Bool) (o : Option ℕ) → place_among (slice_get head.tables 0) line c ≡ o → Some st ≡ cond b (option_map selecting o) None → is_built_statement head st ≡ true
-    go true (Some at) is q = ap (is_built_statement head) (some_is st (selecting at) q) ∙ ap (λ v. v && true) (place_within (slice_get head.tables 0) line c at is)
+    go : (b : Bool) (o : Option ℕ) → place_among (slice_get head.tables 0) line c ≡ o → Some st ≡ cond b (option_map selecting o) None → is_good head st ≡ true
+    go true (Some at) is q = ap (is_good head) (some_is st (selecting at) q) ∙ select-good head at (place_within (slice_get head.tables 0) line c at is)
     go true None is q = absurd (none_is st q)
     go false o is q = absurd (none_is st q)
 
@@ -184,7 +231,7 @@ linked s n d h is =
       ended = λ e. absurd (false_true e);
     }
 
-told : (s : Reader) (n : ℕ) (st : Statement) → Sound s → s.place ≡ place.Body → is_built_statement s.script.head st ≡ true → nat_lt (length s.script.lines) 1000 ≡ true → Sound (advance s n (event.Stated st))
+told : (s : Reader) (n : ℕ) (st : Statement) → Sound s → s.place ≡ place.Body → is_good s.script.head st ≡ true → nat_lt (length s.script.lines) 1000 ≡ true → Sound (advance s n (event.Stated st))
 told s n st h is good few = record {
   tables = h.tables;
   conns = h.conns;
@@ -255,7 +302,7 @@ step_sound place.Body s n line ts e h is w = elim w [
         | inl i ↦ insert-built s.script.head line i.5.5.0 i.5.5.5.5.5.0 d.0 (d.2 ∙ i.5.5.5.5.5.5.5.1)
         | inr o ↦ elim o [
           | inl i ↦ select-built s.script.head line i.5.0 i.5.5.5.0 d.0 (d.2 ∙ i.5.5.5.5.5.5.1)
-          | inr i ↦ ap (is_built_statement s.script.head) (some_is d.0 statement.Commit (d.2 ∙ i.5.1))
+          | inr i ↦ ap (is_good s.script.head) (some_is d.0 statement.Commit (d.2 ∙ i.5.1))
         ]
       ]) d.3)
   | inr v ↦
@@ -288,9 +335,11 @@ built_of : (end : Reader) → Sound end → is_ended end ≡ true → IsBuilt en
 built_of end h e =
     let counts = counted end end.place e in
     record {
-      tables = h.tables ∙ counts.0;
-      conns = h.conns ∙ counts.1;
-      rows = h.rows;
+      tables = omega (arith, h.tables, counts.0);
+      conns = omega (arith, h.conns, counts.1);
+      rows = rw h.rows refl;
+      some_rows = rw h.rows (omega arith);
+      manned = λ z. absurd (omega (arith, h.conns, counts.1, z));
       indexes = h.indexes;
       few = h.few;
       lines = h.lines;

@@ -1,9 +1,11 @@
 -- The parts after an insertion.
-use Rattle.std.proofs.Common.{◌≡◌, ◌<◌, ℕ, true, false, List, [], ◌∷◌, ◌++◌, length, map, refl, ap, sym, ◌∙◌, arith, Some, Option, set}
+use Rattle.std.proofs.Common.{◌≡◌, ◌≢◌, ◌<◌, ◌≤◌, ◌⊎◌, inl, inr, ℕ, Bool, true, false, List, [], ◌∷◌, ◌++◌, length, map, refl, ap, sym, ◌∙◌, arith, Some, Option, set, subst, get_or, get_or-set_same, get_or-set_other}
 use Rattle.std.specs.Prelude.{nat_lt, slice_set, IsTrue}
 use Rattle.std.proofs.Math.ListN.{length-set}
 use Rattle.std.proofs.lemmas.Bool.Decides.{nat_tests}
-use Rattle.std.proofs.lemmas.List.{map-append, map-set}
+use Rattle.std.specs.List.{list_all}
+use Rattle.std.proofs.lemmas.List.{get_or_past, map-append, map-set}
+use Rattle.std.proofs.lemmas.List.Folds.{list_all-append}
 use Rattle.iso_types.specs.Head.{row_fits}
 use Rattle.iso_types.specs.declared.desk.Phase.TheVariants.{Running}
 use Rattle.iso_types.specs.declared.head.Head.{Head}
@@ -20,7 +22,7 @@ use Rattle.iso_history.specs.World.{Version, World}
 use Rattle.iso_history.specs.declared.entry.Act.TheVariants.{Insert}
 use Rattle.iso_history.specs.declared.entry.Entry.{Entry}
 use Rattle.iso_state.specs.Changes.{inserted, rows_at}
-use Rattle.iso_state.specs.Stands.{AreOf, Content, Stands}
+use Rattle.iso_state.specs.Stands.{AreOf, Content, RowsFit, Stands}
 use Rattle.iso_state.proofs.LookSteps.{table-is}
 use Rattle.iso_state.proofs.Seats.{conn-is, is-open}
 use Rattle.iso_state.proofs.Tables.{slots-are, slots-show}
@@ -43,6 +45,35 @@ grows-at w tables k slots rows shown is =
     ∙ ap (λ (l : List (List (Option (List Value)))). set l k (map present slots)) shown
     ∙ ap (set (map (map Some) tables) k) is
     ∙ sym (map-set (map Some) tables k rows)
+
+-- a place is the table's, or another
+same-place : (x y : ℕ) → (x ≡ y) ⊎ (x ≢ y)
+same-place x y = grind arith
+
+-- one more row that fits
+fits-grown : (head : Head) (tables : List (List (List Value))) (t : TableId) (row : List Value) → RowsFit head tables → row_fits head t row ≡ true
+    → RowsFit head (slice_set tables t.0 (rows_at tables t ++ row ∷ []))
+fits-grown head tables t row fit fits u = go (same-place u.0 t.0)
+  where
+    rows : List (List Value)
+    rows = rows_at tables t ++ row ∷ []
+
+    place : ℕ → TableId
+    place x = record { 0 = x }
+
+    all-fit : list_all (row_fits head t) rows ≡ true
+    all-fit = rw list_all-append (rw (fit t, fits) refl)
+
+    within : (b : Bool) → nat_lt t.0 (length tables) ≡ b → list_all (row_fits head t) (get_or (slice_set tables t.0 rows) t.0 []) ≡ true
+    within true e = rw (get_or-set_same tables t.0 rows [] (grind (arith, nat_tests, e))) all-fit
+    within false e =
+        let le : length (slice_set tables t.0 rows) ≤ t.0 = rw length-set (grind (arith, nat_tests, e)) in
+        rw (get_or_past (slice_set tables t.0 rows) t.0 [] le) refl
+
+    go : (u.0 ≡ t.0) ⊎ (u.0 ≢ t.0) → list_all (row_fits head u) (get_or (slice_set tables t.0 rows) u.0 []) ≡ true
+    go (inl k) = subst (λ (z : TableId). list_all (row_fits head z) (get_or (slice_set tables t.0 rows) z.0 []) ≡ true) (sym (ap place k))
+        (within (nat_lt t.0 (length tables)) refl)
+    go (inr ne) = rw (get_or-set_other tables t.0 u.0 rows [] ne) (fit u)
 
 -- the rid of the new slot
 pub rid-is : (w : World) (tables : List (List (List Value))) → map (map present) w.tables ≡ map (map Some) tables → (t : TableId)
@@ -72,6 +103,7 @@ insert-stands p c t row s lt free running within fits few = record {
   parts = rw (world-snoc p.head p.history (insertion p c t row)) (insert-parts p.head (world p.head p.history) p c t row s.parts);
   conns = s.conns;
   wide = simp length-set s.wide;
+  fit = fits-grown p.head p.tables t row s.fit fits;
   ground = Ground-snoc p.head p.history (insertion p c t row) s.ground
       (is-open (world p.head p.history) free, (conn-is p.head c lt, (running, (table-is p.head t within, fits, sym (rid-is (world p.head p.history) p.tables s.parts.tables t), room))));
 }

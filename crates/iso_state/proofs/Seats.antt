@@ -74,6 +74,7 @@ seat-stands p c desk e s m a = record {
   parts = rw (world-snoc p.head p.history e) (seat-parts p.head (world p.head p.history) p c desk e m s.parts);
   conns = simp length-set s.conns;
   wide = s.wide;
+  fit = s.fit;
   ground = Ground-snoc p.head p.history e s.ground a;
 }
 
@@ -90,5 +91,6 @@ note-stands p e s k a = record {
   parts = rw (world-snoc p.head p.history e) (note-parts p.head (world p.head p.history) p e k s.parts);
   conns = s.conns;
   wide = s.wide;
+  fit = s.fit;
   ground = Ground-snoc p.head p.history e s.ground a;
 }

@@ -1,7 +1,7 @@
 -- What the slots of the world and the rows of the parts have in common.
-use Rattle.std.proofs.Common.{◌≡◌, ◌<◌, List, [], length, map, ap, sym, ◌∙◌, Some, None, Option, get_or}
+use Rattle.std.proofs.Common.{◌≡◌, ◌<◌, ◌≤◌, ℕ, List, [], length, map, ap, sym, subst, ◌∙◌, Some, None, Option, get_or}
 use Rattle.std.proofs.Math.ListN.{get_or-map}
-use Rattle.std.proofs.lemmas.List.{length-map}
+use Rattle.std.proofs.lemmas.List.{get_or_past, length-map}
 use Rattle.std.proofs.lemmas.List.{get_or-map as get_or-map_at}
 use Rattle.iso_types.specs.declared.value.Rid.{Rid}
 use Rattle.iso_types.specs.declared.value.TableId.{TableId}
@@ -25,3 +25,7 @@ module _ (w : World) (tables : List (List (List Value))) (shown : map (map prese
       sym (get_or-map present (slot_list w t) r.0 [])
       ∙ ap (λ (l : List (Option (List Value))). get_or l r.0 None) (slots-show t)
       ∙ get_or-map_at Some (rows_at tables t) r.0 [] None lt
+
+  -- past the last slot there is no row
+  pub no-row : (t : TableId) (r : Rid) → length (rows_at tables t) ≤ r.0 → present (versions w t r) ≡ None
+  no-row t r le = ap present (get_or_past (slot_list w t) r.0 [] (subst (λ (n : ℕ). n ≤ r.0) (sym (slots-are t)) le))

@@ -1,10 +1,13 @@
 -- When parts stand for their history.
+use Rattle.std.specs.List.{list_all}
 use Rattle.std.specs.Prelude.{◌≡◌, ◌<◌, true, List, [], length, map, Some, slice_index_or}
+use Rattle.iso_types.specs.Head.{row_fits}
 use Rattle.iso_types.specs.declared.desk.Desk.{Desk}
 use Rattle.iso_types.specs.declared.desk.Phase.TheVariants.{Idle}
 use Rattle.iso_types.specs.declared.head.Head.{Head}
 use Rattle.iso_types.specs.declared.head.Isolation.TheVariants.{Cs}
 use Rattle.iso_types.specs.declared.value.Conn.{Conn}
+use Rattle.iso_types.specs.declared.value.TableId.{TableId}
 use Rattle.iso_types.specs.declared.value.Value.{Value}
 use Rattle.iso_history.specs.declared.entry.Entry.{Entry}
 use Rattle.iso_history.specs.After.{world}
@@ -37,6 +40,10 @@ desk_at desks c = slice_index_or desks c.0 no_desk
 abbrev pub DesksStand : List Desk → (World) → Type 0
 DesksStand desks w = (c : Conn) → c.0 < length desks → (desk_at desks c).phase ≡ phase w c
 
+-- each row fits its table
+abbrev pub RowsFit : Head → List (List (List Value)) → Type 0
+RowsFit head tables = (t : TableId) → list_all (row_fits head t) (slice_index_or tables t.0 []) ≡ true
+
 -- the content is that of this world: each slot shows its present row
 pub record AreOf (w : World) (p : Content) : Type 0 where
   pub tables : map (map present) w.tables ≡ map (map Some) p.tables
@@ -48,6 +55,7 @@ pub record Stands (p : Content) : Type 0 where
   pub parts : AreOf (world p.head p.history) p
   pub conns : length p.desks ≡ length p.head.conns
   pub wide : length p.tables ≡ length p.head.tables
+  pub fit : RowsFit p.head p.tables
   pub ground : Ground p.head p.history
 
 -- the parts stand for their history

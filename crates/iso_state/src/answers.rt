@@ -1,9 +1,7 @@
-use iso_types::Row;
-
-/// What a look shows: the slot's present row, if there is one, or the end of the table.
-#[derive(Drop)]
+/// What a look finds: a slot, whose present row it shows, or the end of the table.
+#[derive(Clone, Copy, PartialEq, Eq)]
 pub enum Looked {
-    Shown(Option<Row>),
+    Shown,
     EndOfTable,
 }
 

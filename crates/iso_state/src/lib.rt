@@ -12,6 +12,6 @@ mod turns;
 pub use answers::{Looked, Written};
 pub use ends::{commit, ended, reply};
 pub use parts::Parts;
-pub use rows::{insert, look};
+pub use rows::{insert, look, refuse, row_at};
 pub use state::State;
 pub use turns::{close, dispatch, finish};

@@ -1,9 +1,11 @@
-ghost use Rattle.std.specs.Prelude.{◌≡◌, ◌≤◌, ◌<◌, ◌↔◌, ◌++◌, [], ◌∷◌, length, slice_set, false, IsTrue, IfOk, OnOk, OnErr};
+ghost use Rattle.std.specs.Option.{option_copied};
+ghost use Rattle.std.specs.Prelude.{◌≡◌, ◌≤◌, ◌<◌, ◌↔◌, ◌++◌, [], ◌∷◌, length, slice_set, true, false, IsTrue, IfOk, IfSome, OnOk, OnErr};
 ghost use Rattle.iso_types.specs.Head.{row_fits};
 ghost use Rattle.iso_types.specs.declared.desk.Phase.TheVariants.{Running};
 ghost use Rattle.iso_history.specs.Makers.{by_agent};
 ghost use Rattle.iso_history.specs.Phases.{phase};
-ghost use Rattle.iso_history.specs.Versions.{next_rid, slots};
+ghost use Rattle.iso_history.specs.Versions.{next_rid, present, slots, versions};
+ghost use Rattle.iso_history.specs.Writes.{minus};
 ghost use Rattle.iso_state.specs.Changes.{inserted, rows_at};
 ghost use Rattle.iso_state.specs.Looks.{act_of, look_act, looked_at, looked_of};
 ghost use Rattle.iso_state.specs.Stands.{StandsFor, content_of, world_of};
@@ -15,24 +17,35 @@ use iso_history::{Act, Entry, Got, Want, Who};
 use iso_types::{Conn, Items, Memory, Rid, Row, Rows, TableId};
 use std::alloc::Global;
 
-/// A copy of the row of a slot, or the end of the table where it has no such slot.
-fn looked(parts: &Parts, alloc: Global, table: TableId, rid: Rid) -> Result<Looked, Memory>
-    requires { table.0 < length parts.now.tables }
-    ensures { IfOk result (λ a. a ≡ looked_at parts.now.tables table rid) }
+/// The present row of a slot, whether its maker has committed or not; None where the slot shows no row, or is not
+/// there. It fits its table. Constant time, and no copy. Db2 LUW, 'Uncommitted read (UR)'.
+pub fn row_at(parts: &Parts, table: TableId, rid: Rid) -> Option<&Row>
+    requires stands { StandsFor parts.now }
+    requires table { table.0 < length parts.now.head.tables }
+    ensures present { option_copied result ≡ present (versions (world_of parts.now) table rid) }
+    ensures fits { IfSome result (λ row. row_fits parts.now.head table row.now ≡ true) }
 {
-    let rows = &parts.tables.as_slice()[table.0 as usize];
-    match rows.get(rid.0 as usize) {
-        Some(row) => Ok(Looked::Shown(Some(row.copied(alloc)?))),
-        None => Ok(Looked::EndOfTable),
+    parts.tables.as_slice()[table.0 as usize].get(rid.0 as usize)
+}
+
+/// A slot, or the end of the table where it has no such slot.
+fn looked(tables: &Items<Rows>, table: TableId, rid: Rid) -> Looked
+    requires { table.0 < length tables.now }
+    ensures { result ≡ looked_at tables.now table rid }
+{
+    if (rid.0 as usize) < slots_of(tables, table) {
+        Looked::Shown
+    } else {
+        Looked::EndOfTable
     }
 }
 
-/// The act of a look that showed this.
-fn act_of_look(looked: &Looked, table: TableId, rid: Rid, want: Want) -> Act
-    ensures { result ≡ act_of looked.now table rid want }
+/// The act of a look that found this.
+fn act_of_look(looked: Looked, table: TableId, rid: Rid, want: Want) -> Act
+    ensures { result ≡ act_of looked table rid want }
 {
     match looked {
-        Looked::Shown(_) => Act::Look {
+        Looked::Shown => Act::Look {
             table,
             rid,
             want,
@@ -45,12 +58,11 @@ fn act_of_look(looked: &Looked, table: TableId, rid: Rid, want: Want) -> Act
     }
 }
 
-/// Looks at a slot, of those there are or the next one: it shows the slot's present row, whether its maker has
-/// committed or not, or the end of the table. After `Memory`, where the history or the copy of the row finds
-/// none, all is as before. Constant time, and a copy of the row. Db2 LUW, 'Uncommitted read (UR)'.
+/// Looks at a slot, of those there are or the next one: it shows the slot's present row, which `row_at` gives, or
+/// finds the end of the table. After `Memory`, where the history finds none, all is as before. Constant time; it takes
+/// no memory but the entry's. Db2 LUW, 'Uncommitted read (UR)'.
 pub fn look(
     parts: &mut Parts,
-    alloc: Global,
     conn: Conn,
     table: TableId,
     rid: Rid,
@@ -69,9 +81,9 @@ pub fn look(
     ensures ok { OnOk result (parts.new.history.items ≡ parts.old.history.items ++ by_agent conn (look_act (world_of parts.old) table rid) ∷ []) }
     ensures err { OnErr result (content_of parts.new ≡ content_of parts.old) }
 {
-    let looked = looked(parts, alloc, table, rid)?;
     make_room(parts)?;
-    let act = act_of_look(&looked, table, rid, want);
+    let looked = looked(&parts.tables, table, rid);
+    let act = act_of_look(looked, table, rid, want);
     let who = Who::Agent(conn);
     note(parts, Entry { who, act });
     Ok(looked)
@@ -155,4 +167,24 @@ pub fn insert(
     make_room(parts)?;
     write_insert(parts, conn, table, written, copy)?;
     Ok(Written::Done)
+}
+
+/// Refuses the change of a running connection's statement, before it is made: with -407, where its row has a NULL in a
+/// NOT NULL column. After `Memory`, where the history finds none, all is as before. Db2 LUW, SQLCODE -407.
+pub fn refuse(parts: &mut Parts, conn: Conn, code: i32) -> Result<(), Memory>
+    requires stands { StandsFor parts.old }
+    requires open { (world_of parts.old).pace.finished ≡ false }
+    requires conn { conn.0 < length parts.old.head.conns }
+    requires running { phase (world_of parts.old) conn ≡ Running }
+    requires null { code ≡ minus 407 }
+    ensures stands { StandsFor parts.new }
+    ensures head { parts.new.head ≡ parts.old.head }
+    ensures ok { OnOk result (parts.new.history.items ≡ parts.old.history.items ++ by_agent conn (Act.Refused code) ∷ []) }
+    ensures err { OnErr result (content_of parts.new ≡ content_of parts.old) }
+{
+    make_room(parts)?;
+    let act = Act::Refused { code };
+    let who = Who::Agent(conn);
+    note(parts, Entry { who, act });
+    Ok(())
 }

@@ -1,4 +1,6 @@
-ghost use Rattle.std.specs.Prelude.{◌≡◌, ◌≤◌, [], length, IfOk};
+ghost use Rattle.std.specs.List.{list_all};
+ghost use Rattle.std.specs.Prelude.{◌≡◌, ◌≤◌, true, [], length, IfOk};
+ghost use Rattle.iso_types.specs.Head.{row_fits};
 ghost use Rattle.iso_state.specs.Stands.{StandsFor};
 ghost use Rattle.iso_state.specs.Tale.{tale_of};
 
@@ -28,8 +30,9 @@ impl State {
     /// The state of the empty history over a copy of the head; `Memory` where there is none.
     /// It copies all that the head declares.
     pub fn new(alloc: Global, head: &Head) -> Result<State, Memory>
-        requires rows { head.now.rows ≡ [] }
+        requires tables { length head.now.tables ≤ 16 }
         requires conns { length head.now.conns ≤ 32 }
+        requires fit { list_all (λ f. row_fits head.now f.table f.row) head.now.rows ≡ true }
         ensures head { IfOk result (λ s. s.head ≡ head.now) }
         ensures history { IfOk result (λ s. s.history ≡ []) }
     {

@@ -8,7 +8,7 @@ use Rattle.iso_engine.proofs.insertion.answer_it.Goals as goal
 pub returns-clause-ok : goal.returns-clause-ok
 returns-clause-ok c = on_ok _ (λ is. carried (λ h es. IsIdle h c.args.lines.now es (drop c.args.left c.args.lines.now)) _ _ _ _
     c.reply.ensures.head (rw c.new.ensures at is)
-    (replied-on _ _ _ _ _ _ _ _ _ _ c.requires.can.conns refl refl c.requires.runs)) c.reply.ensures.ok
+    (replied-on _ _ _ _ _ _ _ _ _ _ _ c.requires.can.conns refl refl c.requires.runs)) c.reply.ensures.ok
 
 pub returns-clause-way : goal.returns-clause-way
 returns-clause-way c = either_way {P = IsIdle c.reply.new.parts.head c.args.lines.now c.reply.new.parts.history.items (drop c.args.left c.args.lines.now)} _

@@ -8,7 +8,7 @@ use Rattle.iso_engine.proofs.query.answer.Goals as goal
 pub returns-clause-ok : goal.returns-clause-ok
 returns-clause-ok c = on_ok _ (λ is. carried (λ h es. IsIdle h c.args.lines.now es (drop c.args.left c.args.lines.now)) _ _ _ _
     c.reply.ensures.head is
-    (replied-on _ _ _ _ _ _ _ _ _ _ c.requires.can.conns refl (query_reply c.args.query.now.table c.args.query.now.items.now c.args.query.now.level _ _ _ (code_back _ _ _ c.code_of-code.ensures) c.in_ok-rows.ensures) c.requires.runs)) c.reply.ensures.ok
+    (replied-on _ _ _ _ _ _ _ _ _ _ _ c.requires.can.conns refl (query_reply c.args.query.now.table c.args.query.now.items.now c.args.query.now.cond.now c.args.query.now.level _ _ _ (code_back _ _ _ c.code_of-code.ensures) c.in_ok-rows.ensures) c.requires.runs)) c.reply.ensures.ok
 
 pub returns-clause-way : goal.returns-clause-way
 returns-clause-way c = either_way {P = IsIdle c.reply.new.parts.head c.args.lines.now c.reply.new.parts.history.items (drop c.args.left c.args.lines.now)} _

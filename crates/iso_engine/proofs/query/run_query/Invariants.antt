@@ -1,7 +1,5 @@
 use Rattle.std.proofs.Common.{◌≡◌, ◌≤◌, drop, length}
-use Rattle.iso_sql.specs.declared.statement.Condition.TheVariants.{Always}
-use Rattle.iso_sql.specs.declared.statement.Statement.TheVariants.{Select}
-use Rattle.iso_engine.specs.Scans.{scanning}
+use Rattle.iso_engine.specs.Scans.{scanning, select_of}
 use Rattle.iso_engine.specs.UnderWay.{IsRunning}
 use Rattle.iso_history.specs.Versions.{slots}
 use Rattle.iso_state.specs.Stands.{StandsFor, world_of}
@@ -14,5 +12,5 @@ invariant-scan l = record {
   within : l.rid ≤ slots (world_of l.parts) l.query.table;
   few : length l.kept ≤ l.rid;
   runs : IsRunning l.parts.head l.lines l.parts.history.items
-      (scanning (Select l.query.table l.query.items.now Always l.query.level) l.query.table l.rid l.kept) (drop l.left l.lines);
+      (scanning (select_of l.query) l.query.table l.rid l.kept) (drop l.left l.lines);
 }

@@ -4,8 +4,8 @@ use Rattle.iso_engine.proofs.Start.{starts}
 use Rattle.iso_engine.specs.UnderWay.{IsIdle}
 use Rattle.iso_engine.proofs.run.run_serial.Goals as goal
 
-pub run_lines-requires-clause-idle : goal.run_lines-requires-clause-idle
-run_lines-requires-clause-idle c =
+pub run_all-requires-clause-idle : goal.run_all-requires-clause-idle
+run_all-requires-clause-idle c =
     subst (λ ls. IsIdle c.in_ok-parts.parts.head ls c.in_ok-parts.parts.history.items ls) (sym c.as_slice.ensures)
     (carried (λ h es. IsIdle h c.args.script.now.lines es c.args.script.now.lines) _ _ _ _
     c.in_ok-parts.ensures.head c.in_ok-parts.ensures.history (starts _ _ c.requires.built.closed))

@@ -1,4 +1,4 @@
-use Rattle.std.proofs.Common.{◌∙◌, ap, sym, subst, replicate, [], ℕ}
+use Rattle.std.proofs.Common.{sym, subst}
 use Rattle.iso_state.specs.Stands.{Content, Stands}
 use Rattle.iso_state.proofs.FirstParts.{first-is, first-stands}
 use Rattle.iso_state.proofs.parts.Parts.new.Goals as goal
@@ -7,5 +7,5 @@ pub returns-clause-stands : goal.returns-clause-stands
 returns-clause-stands c =
     subst (λ (q : Content). Stands q)
     (sym (first-is c.args.head.now c.in_ok-copied.field-0 c.in_ok-first_tables.field-0 c.in_ok-first_desks.field-0 c.new.result.items
-    c.in_ok-copied.ensures (c.in_ok-first_tables.ensures ∙ ap (λ (n : ℕ). replicate n []) c.len.ensures) c.in_ok-first_desks.ensures c.new.ensures))
-    (first-stands c.args.head.now c.requires.rows)
+    c.in_ok-copied.ensures c.in_ok-first_tables.ensures c.in_ok-first_desks.ensures c.new.ensures))
+    (first-stands c.args.head.now c.requires.fit)
