@@ -1,6 +1,10 @@
 //! Statements: what one statement of a script asks for, and how its text is read.
 #![tactic(auto)]
 
+mod assignment;
+mod condition;
+mod found;
+mod list;
 mod rows;
 mod scope;
 mod statement;
