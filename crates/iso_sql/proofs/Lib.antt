@@ -5,3 +5,4 @@ pub mod Scan
 pub mod Steps
 pub mod ScanSteps
 pub mod StatementLaws
+pub mod TextLaws

@@ -11,8 +11,9 @@ use Rattle.iso_grammar.proofs.Rules.{then, or_else, repeated, word, done}
 use Rattle.iso_sql.specs.declared.assignment.Right.TheVariants as side
 use Rattle.iso_sql.specs.declared.list.Chosen.TheVariants as chosen
 use Rattle.iso_sql.specs.declared.list.Listed.TheVariants as listed
+use Rattle.iso_sql.specs.declared.statement.Statement.TheVariants as s
 use Rattle.iso_sql.specs.Names.{Names, table_names}
-use Rattle.iso_sql.specs.Actions.{limited, unfiltered, selected, inserted, updated, deleted, saved, rolled_back, locked, committed, at_level, waiting}
+use Rattle.iso_sql.specs.Actions.{limited, unfiltered, selected, inserted, updated, deleted, saved, rolled_back, locked, plain}
 use Rattle.iso_sql.specs.Statements as gs
 use Rattle.iso_sql.specs.StatementReading.{stored, separated, column_list, maybe_columns, isolation, level, where_, filter, all_items, counted, column_items, items, integer, literal_right, plus, minus, behind_column, column_right, right, assignment, assignments, select, insert, update, delete, commit, to_savepoint, maybe_to, rollback, retaining, maybe_retaining, savepoint, lock_mode, lock, new_level, set_isolation, waits, set_timeout, set_current, set, short_statement, statement, first_words, goes_words}
 use Rattle.iso_sql.proofs.ConditionLaws.{stands}
@@ -137,7 +138,7 @@ delete-reads head line =
 
 commit-reads : Reads (λ n. commit) gs.commit (k.Commit ∷ []) (k.Work ∷ []) false
 unfolding commit
-commit-reads = then (word k.Commit) (λ _. then (or_else (then (word k.Work) (λ t. done (Some t)) refl) (done None) refl) (λ _. done committed) refl) refl
+commit-reads = then (word k.Commit) (λ _. then (or_else (then (word k.Work) (λ t. done (Some t)) refl) (done None) refl) (λ _. done (plain s.Commit)) refl) refl
 
 to_savepoint-reads : Reads (λ n. to_savepoint) gs.to_savepoint (k.To ∷ []) [] false
 unfolding to_savepoint
@@ -180,7 +181,7 @@ new_level-reads = or_else (then isolation-reads (λ x. done (Some x)) refl) (sta
 set_isolation-reads : Reads (λ n. set_isolation) gs.set_isolation (k.Isolation ∷ []) [] false
 unfolding set_isolation
 set_isolation-reads =
-    then (word k.Isolation) (λ _. then (or_else (then (word k.Equal) (λ t. done (Some t)) refl) (done None) refl) (λ _. then new_level-reads (λ x. done (at_level x)) refl) refl) refl
+    then (word k.Isolation) (λ _. then (or_else (then (word k.Equal) (λ t. done (Some t)) refl) (done None) refl) (λ _. then new_level-reads (λ x. done (plain (s.SetIsolation x))) refl) refl) refl
 
 waits-reads : Reads (λ n. waits) gs.waits (k.Wait ∷ k.Not ∷ []) [] false
 unfolding waits
@@ -189,7 +190,7 @@ waits-reads = or_else (stands k.Wait true) (then (word k.Not) (λ _. stands k.Wa
 set_timeout-reads : Reads (λ n. set_timeout) gs.set_timeout (k.Lock ∷ []) [] false
 unfolding set_timeout
 set_timeout-reads =
-    then (word k.Lock) (λ _. then (word k.Timeout) (λ _. then (or_else (then (word k.Equal) (λ t. done (Some t)) refl) (done None) refl) (λ _. then waits-reads (λ w. done (waiting w)) refl) refl) refl) refl
+    then (word k.Lock) (λ _. then (word k.Timeout) (λ _. then (or_else (then (word k.Equal) (λ t. done (Some t)) refl) (done None) refl) (λ _. then waits-reads (λ w. done (plain (s.SetWait w))) refl) refl) refl) refl
 
 set_current-reads : Reads (λ n. set_current) gs.set_current (k.Current ∷ []) [] false
 unfolding set_current

@@ -224,12 +224,19 @@ selected head line items t cond level =
     checked (s.Select (table_of head line t) (items_of (table_names head line t) items).value cond.value level)
     (least (items_of (table_names head line t) items).fault (least (table_fault (table_names head line t) t) cond.fault))
 
--- the row of literals for all columns, or for those that are listed
-unfoldable pub row_of : Names → Option (List Token) → List Token → Token → Checked (List Value)
-row_of names None literals close = checked (stored_row names.line literals) (stored_fault false names.line names.columns literals close)
-row_of names (Some columns) literals close =
+-- the row of literals for all columns
+abbrev pub all_row : Names → List Token → Token → Checked (List Value)
+all_row names literals close = checked (stored_row names.line literals) (stored_fault false names.line names.columns literals close)
+
+-- the row of literals for the listed columns
+abbrev pub listed_row : Names → List Token → List Token → Token → Checked (List Value)
+listed_row names columns literals close =
     checked (placed_row (length names.columns) names.line (listed names [] columns).value literals)
     (least (listed names [] columns).fault (stored_fault false names.line (columns_at names (listed names [] columns).value) literals close))
+
+abbrev pub row_of : Names → Option (List Token) → List Token → Token → Checked (List Value)
+row_of names None literals close = all_row names literals close
+row_of names (Some columns) literals close = listed_row names columns literals close
 
 unfoldable pub inserted : Head → List ℕ → Token → Option (List Token) → List Token → Token → Checked Statement
 inserted head line t columns literals close =
@@ -245,15 +252,23 @@ unfoldable pub deleted : Head → List ℕ → Token → Checked Condition → O
 deleted head line t cond level =
     checked (s.Delete (table_of head line t) cond.value level) (least (table_fault (table_names head line t) t) cond.fault)
 
-abbrev pub or_empty : Option (List ℕ) → List ℕ
-or_empty None = []
-or_empty (Some name) = name
+-- a name of more than 32 bytes
+abbrev pub too_long : Token → Checked Statement
+too_long t = checked s.Commit (at t Limit)
+
+abbrev pub saved_as : Token → Option (List ℕ) → Checked Statement
+saved_as t None = too_long t
+saved_as t (Some name) = checked (s.Savepoint name) None
 
 unfoldable pub saved : List ℕ → Token → Checked Statement
-saved line t = checked (s.Savepoint (or_empty (name_of line t))) (unless (is_some (name_of line t)) t Limit)
+saved line t = saved_as t (name_of line t)
+
+abbrev pub rolled_back_as : Token → Option (List ℕ) → Checked Statement
+rolled_back_as t None = too_long t
+rolled_back_as t (Some name) = checked (s.RollbackTo name) None
 
 unfoldable pub rolled_back_to : List ℕ → Token → Checked Statement
-rolled_back_to line t = checked (s.RollbackTo (or_empty (name_of line t))) (unless (is_some (name_of line t)) t Limit)
+rolled_back_to line t = rolled_back_as t (name_of line t)
 
 abbrev pub rolled_back : List ℕ → Option Token → Checked Statement
 rolled_back line None = checked s.Rollback None
@@ -262,11 +277,6 @@ rolled_back line (Some t) = rolled_back_to line t
 unfoldable pub locked : Head → List ℕ → Token → Mode → Checked Statement
 locked head line t mode = checked (s.LockTable (table_of head line t) mode) (table_fault (table_names head line t) t)
 
-abbrev pub committed : Checked Statement
-committed = checked s.Commit None
-
-abbrev pub at_level : Option Isolation → Checked Statement
-at_level level = checked (s.SetIsolation level) None
-
-abbrev pub waiting : Bool → Checked Statement
-waiting waits = checked (s.SetWait waits) None
+-- a statement that can't have a fault
+abbrev pub plain : Statement → Checked Statement
+plain x = checked x None

@@ -6,3 +6,5 @@ pub mod Conditions
 pub mod ConditionReading
 pub mod Statements
 pub mod StatementReading
+pub mod Unbuilt
+pub mod Texts

@@ -9,7 +9,7 @@ use Rattle.iso_grammar.specs.declared.fault.Checked.{Checked}
 use Rattle.iso_grammar.specs.declared.token.Kind.TheVariants as k
 use Rattle.iso_grammar.specs.declared.token.Token.{Token}
 use Rattle.iso_grammar.specs.Kinds.{Kinds}
-use Rattle.iso_grammar.specs.Reading.{Parser, pure, ◌>>=◌, ◌>>◌, either, expect, optional, many}
+use Rattle.iso_grammar.specs.Reading.{Parser, pure, ◌>>=◌, ◌>>◌, begins, either, expect, optional, many}
 use Rattle.iso_sql.specs.declared.assignment.Right.{Right}
 use Rattle.iso_sql.specs.declared.assignment.Right.TheVariants as side
 use Rattle.iso_sql.specs.declared.assignment.Target.{Target}
@@ -19,8 +19,9 @@ use Rattle.iso_sql.specs.declared.list.Listed.{Listed}
 use Rattle.iso_sql.specs.declared.list.Listed.TheVariants as listed
 use Rattle.iso_sql.specs.declared.statement.Condition.{Condition}
 use Rattle.iso_sql.specs.declared.statement.Statement.{Statement}
+use Rattle.iso_sql.specs.declared.statement.Statement.TheVariants as s
 use Rattle.iso_sql.specs.Names.{Names, table_names}
-use Rattle.iso_sql.specs.Actions.{limited, unfiltered, selected, inserted, updated, deleted, saved, rolled_back, locked, committed, at_level, waiting}
+use Rattle.iso_sql.specs.Actions.{limited, unfiltered, selected, inserted, updated, deleted, saved, rolled_back, locked, plain}
 use Rattle.iso_sql.specs.ConditionReading.{condition}
 
 unfoldable pub stored : Parser Token
@@ -181,7 +182,7 @@ unfoldable pub commit : Parser (Checked Statement)
 commit = do
   expect k.Commit
   optional (k.Work ∷ []) (expect k.Work)
-  pure committed
+  pure (plain s.Commit)
 
 unfoldable pub to_savepoint : Parser Token
 to_savepoint = do
@@ -232,18 +233,27 @@ lock head line = do
 abbrev pub level_words : Kinds
 level_words = k.Ur ∷ k.Cs ∷ k.Rs ∷ k.Rr ∷ []
 
+abbrev pub begins_level : List Token → Bool
+begins_level = begins level_words
+
+abbrev pub reset : Parser (Option Isolation)
+reset = expect k.Reset >> pure None
+
 unfoldable pub new_level : Parser (Option Isolation)
-new_level = either level_words (isolation >>= λ x. pure (Some x)) (expect k.Reset >> pure None)
+new_level = either level_words (isolation >>= λ x. pure (Some x)) reset
 
 unfoldable pub set_isolation : Parser (Checked Statement)
 set_isolation = do
   expect k.Isolation
   optional (k.Equal ∷ []) (expect k.Equal)
   x ← new_level
-  pure (at_level x)
+  pure (plain (s.SetIsolation x))
+
+abbrev pub no_wait : Parser Bool
+no_wait = expect k.Not >> (expect k.Wait >> pure false)
 
 unfoldable pub waits : Parser Bool
-waits = either (k.Wait ∷ []) (expect k.Wait >> pure true) (expect k.Not >> (expect k.Wait >> pure false))
+waits = either (k.Wait ∷ []) (expect k.Wait >> pure true) no_wait
 
 unfoldable pub set_timeout : Parser (Checked Statement)
 set_timeout = do
@@ -251,7 +261,7 @@ set_timeout = do
   expect k.Timeout
   optional (k.Equal ∷ []) (expect k.Equal)
   w ← waits
-  pure (waiting w)
+  pure (plain (s.SetWait w))
 
 unfoldable pub set_current : Parser (Checked Statement)
 set_current = expect k.Current >> either (k.Isolation ∷ []) set_isolation set_timeout

@@ -19,8 +19,9 @@ use Rattle.iso_sql.specs.declared.list.Listed.{Listed}
 use Rattle.iso_sql.specs.declared.list.Listed.TheVariants as listed
 use Rattle.iso_sql.specs.declared.statement.Condition.{Condition}
 use Rattle.iso_sql.specs.declared.statement.Statement.{Statement}
+use Rattle.iso_sql.specs.declared.statement.Statement.TheVariants as s
 use Rattle.iso_sql.specs.Names.{Names, table_names}
-use Rattle.iso_sql.specs.Actions.{limited, unfiltered, selected, inserted, updated, deleted, saved, rolled_back, locked, committed, at_level, waiting}
+use Rattle.iso_sql.specs.Actions.{limited, unfiltered, selected, inserted, updated, deleted, saved, rolled_back, locked, plain}
 use Rattle.iso_sql.specs.Conditions.{condition}
 
 -- ---- parts
@@ -190,7 +191,7 @@ abbrev pub commit : Lang (Checked Statement)
 commit = do
   token k.Commit
   optional (token k.Work)
-  pure committed
+  pure (plain s.Commit)
 
 -- TO SAVEPOINT s
 abbrev pub to_savepoint : Lang Token
@@ -248,7 +249,7 @@ set_isolation = do
   token k.Isolation
   optional (token k.Equal)
   x ← new_level
-  pure (at_level x)
+  pure (plain (s.SetIsolation x))
 
 -- WAIT | NOT WAIT
 abbrev pub waits : Lang Bool
@@ -261,7 +262,7 @@ set_timeout = do
   token k.Timeout
   optional (token k.Equal)
   w ← waits
-  pure (waiting w)
+  pure (plain (s.SetWait w))
 
 abbrev pub set_current : Lang (Checked Statement)
 set_current = token k.Current >> (set_isolation <|> set_timeout)
