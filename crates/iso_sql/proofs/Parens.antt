@@ -1,11 +1,11 @@
 -- Conditions in parentheses.
-use Rattle.std.proofs.Common.{◌≡◌, ℕ, zero, suc, ◌+◌, ◌≤◌, Bool, true, false, cond, List, [], ◌∷◌, ◌++◌, Option, Some, None, Ok, Err, refl, sym, ap, subst, ◌⊎◌, inl, inr, arith}
+use Rattle.std.proofs.Common.{◌≡◌, ℕ, zero, suc, ◌+◌, ◌≤◌, false, List, [], ◌∷◌, ◌++◌, None, refl, sym, subst, inr, arith}
 use Rattle.std.specs.Prelude.{fold}
 use Rattle.std.proofs.lemmas.List.{append-nil}
 use Rattle.iso_grammar.specs.declared.token.Kind.TheVariants as k
 use Rattle.iso_grammar.specs.declared.token.Token.{Token}
 use Rattle.iso_sql.specs.Names.{Names}
-use Rattle.iso_grammar.specs.Kinds.{Kinds, has}
+use Rattle.iso_grammar.specs.Kinds.{Kinds}
 use Rattle.iso_sql.specs.declared.found.Found.{Found}
 use Rattle.iso_sql.specs.Actions.{negated, both, any, nested}
 use Rattle.iso_grammar.specs.Grammar as g
@@ -15,7 +15,7 @@ use Rattle.iso_grammar.specs.Reading.{Parser}
 use Rattle.iso_sql.specs.Conditions as gc
 use Rattle.iso_sql.specs.ConditionReading.{negation, conjunction, disjunction, paren_at, condition}
 use Rattle.iso_grammar.proofs.Laws.{Begins, Completes, Answers, Reads}
-use Rattle.iso_grammar.proofs.Rules.{then, word, done, Half, Ready, half, ready, half_then, half_else, half_repeated, ready_then, ready_else, ready_repeated, completes_as, answers_as}
+use Rattle.iso_grammar.proofs.Rules.{word, done, Half, Ready, half, ready, half_then, half_else, half_repeated, ready_then, ready_else, ready_repeated, completes_as, answers_as}
 use Rattle.iso_grammar.proofs.Union.{Within, bind-within, alt-within, many-within, Grows, same-grows, bind-grows, alt-grows, many-grows}
 use Rattle.iso_grammar.proofs.After.{after, after-heads, after-complete, after-ok, after-err, not_empty}
 use Rattle.iso_sql.proofs.ConditionLaws.{maybe_not-reads, comparison-reads}

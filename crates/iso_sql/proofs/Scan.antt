@@ -1,5 +1,5 @@
 -- What is read without a call of itself is what the grammar's parser reads.
-use Rattle.std.proofs.Common.{◌≡◌, ℕ, zero, suc, ◌+◌, ◌≤◌, Bool, true, false, cond, List, [], ◌∷◌, ◌++◌, length, Option, Result, Ok, Err, refl, sym, ap, subst, ◌∙◌, ◌⊎◌, inl, inr, length-append, arith}
+use Rattle.std.proofs.Common.{◌≡◌, ℕ, zero, suc, ◌+◌, ◌≤◌, true, false, cond, List, [], ◌∷◌, length, Option, Ok, refl, sym, ap, ◌∙◌, inl, inr, length-append, arith}
 use Rattle.std.specs.Prelude.{fold}
 use Rattle.iso_grammar.specs.declared.token.Kind.TheVariants as k
 use Rattle.iso_grammar.specs.declared.token.Token.{Token}
@@ -7,9 +7,8 @@ use Rattle.iso_grammar.specs.Kinds.{Kinds}
 use Rattle.iso_sql.specs.Names.{Names}
 use Rattle.iso_sql.specs.declared.found.Found.{Found}
 use Rattle.iso_sql.specs.Actions.{negated, both, any, nested}
-use Rattle.iso_grammar.specs.Reading.{Parser, Outcome, and_then, begins, many, pure, expect, either}
+use Rattle.iso_grammar.specs.Reading.{Parser, and_then, begins, many, pure, expect, either}
 use Rattle.iso_sql.specs.ConditionReading.{maybe_not, comparison, negation, and_next, conjunction, or_next, disjunction, paren_at, scan, inside}
-use Rattle.iso_grammar.proofs.Laws.{Reads}
 use Rattle.iso_grammar.proofs.Rules.{then, word}
 use Rattle.iso_grammar.proofs.Choices.{decide, both_ways}
 use Rattle.iso_sql.proofs.ConditionLaws.{maybe_not-reads, comparison-reads}

@@ -1,5 +1,5 @@
 -- A parenthesis with as much fuel inside as outside, and one at the greatest depth.
-use Rattle.std.proofs.Common.{◌≡◌, ℕ, zero, suc, ◌+◌, ◌-◌, ◌≤◌, ◌<◌, Bool, true, false, cond, List, [], ◌∷◌, length, Ok, refl, sym, ap, ◌∙◌, arith}
+use Rattle.std.proofs.Common.{◌≡◌, ℕ, zero, suc, ◌+◌, ◌≤◌, true, false, cond, List, [], ◌∷◌, length, refl, sym, ap, ◌∙◌, arith}
 use Rattle.std.specs.Prelude.{nat_lt}
 use Rattle.iso_grammar.specs.declared.token.Kind.TheVariants as k
 use Rattle.iso_grammar.specs.declared.token.Token.{Token}
@@ -7,8 +7,8 @@ use Rattle.iso_sql.specs.Names.{Names}
 use Rattle.iso_sql.specs.Actions.{max_depth}
 use Rattle.iso_sql.specs.declared.found.Found.{Found}
 use Rattle.iso_sql.specs.Actions.{nested, hidden}
-use Rattle.iso_grammar.specs.Reading.{Parser, Outcome, and_then, pure, expect}
-use Rattle.iso_sql.specs.ConditionReading.{disjunction, paren_at, deep_paren, scan, inside}
+use Rattle.iso_grammar.specs.Reading.{Parser, and_then, pure, expect}
+use Rattle.iso_sql.specs.ConditionReading.{disjunction, paren_at, deep_paren, scan}
 use Rattle.iso_grammar.proofs.Rules.{word}
 use Rattle.iso_sql.proofs.Parens.{disjunction-reads}
 use Rattle.iso_grammar.proofs.Fuel.{and_then-cong, and_then-assoc, shrinks, agree}

@@ -1,6 +1,6 @@
 -- The grammar of conditions.
 -- Db2 LUW, SQL reference, 'Search conditions', 'Predicates'; which of them there are is this project's own
-use Rattle.std.specs.Prelude.{◌≡◌, ℕ, zero, suc, ◌+◌, List, Option, fold}
+use Rattle.std.specs.Prelude.{ℕ, zero, suc, ◌+◌, fold}
 use Rattle.iso_grammar.specs.declared.token.Kind.TheVariants as k
 use Rattle.iso_grammar.specs.declared.token.Token.{Token}
 use Rattle.iso_grammar.specs.Grammar.{Lang, pure, ◌>>=◌, ◌>>◌, ◌<|>◌, token, optional, many, nowhere}

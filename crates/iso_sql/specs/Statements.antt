@@ -1,6 +1,6 @@
 -- The grammar of statements.
 -- Db2 LUW, SQL reference, the pages of each statement; which forms there are is this project's own
-use Rattle.std.specs.Prelude.{ℕ, Bool, true, false, List, [], ◌∷◌, Option, Some, None}
+use Rattle.std.specs.Prelude.{ℕ, Bool, true, false, List, ◌∷◌, Option, Some, None}
 use Rattle.iso_types.specs.declared.head.Head.{Head}
 use Rattle.iso_types.specs.declared.head.Isolation.{Isolation}
 use Rattle.iso_types.specs.declared.head.Isolation.TheVariants as iso

@@ -1,5 +1,5 @@
 -- What a text says as a statement, or what is wrong with it.
-use Rattle.std.specs.Prelude.{◌≡◌, ◌⊎◌, ℕ, ◌+◌, true, false, List, length, Option, Some, None, Result, Ok, Err}
+use Rattle.std.specs.Prelude.{◌≡◌, ◌⊎◌, ℕ, true, false, List, length, Some, None, Result, Ok, Err}
 use Rattle.iso_types.specs.declared.head.Head.{Head}
 use Rattle.iso_grammar.specs.declared.fault.Cause.{Cause}
 use Rattle.iso_grammar.specs.declared.fault.Cause.TheVariants as cause

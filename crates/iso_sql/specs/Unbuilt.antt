@@ -1,5 +1,5 @@
 -- Which statements this stage of the project runs. // this project's own
-use Rattle.std.specs.Prelude.{Bool, true, false, Option, Some, None}
+use Rattle.std.specs.Prelude.{Bool, true, false, Option, Some}
 use Rattle.iso_types.specs.declared.head.Isolation.{Isolation}
 use Rattle.iso_types.specs.declared.head.Isolation.TheVariants.{Ur}
 use Rattle.iso_sql.specs.declared.statement.Statement.{Statement}

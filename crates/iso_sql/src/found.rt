@@ -7,9 +7,7 @@ ghost use Rattle.iso_sql.specs.Actions as act;
 use crate::rows::stored_value;
 use crate::scope::Scope;
 use crate::statement::{Condition, Op};
-use iso_grammar::{
-    Cause, Checked, Fault, Kind, Token, fault_at, least, same, unless, value_of,
-};
+use iso_grammar::{Cause, Checked, Fault, Kind, Token, fault_at, least, same, unless, value_of};
 use iso_types::{Column, ColumnKind, Items, Memory};
 use sqlite_items::Boxed;
 use std::alloc::Global;

@@ -7,11 +7,7 @@ ghost use Rattle.iso_sql.specs.StatementReading as spec;
 use iso_grammar::{Kind, ReadError, Tokens};
 use iso_types::Isolation;
 
-fn as_level(
-    tokens: &mut Tokens<'_>,
-    kind: Kind,
-    level: Isolation,
-) -> Result<Isolation, ReadError>
+fn as_level(tokens: &mut Tokens<'_>, kind: Kind, level: Isolation) -> Result<Isolation, ReadError>
     ensures { Gives (word.word kind level) tokens.old result tokens.new }
 {
     tokens.expect(kind)?;
@@ -45,4 +41,3 @@ pub fn level(tokens: &mut Tokens<'_>) -> Result<Option<Isolation>, ReadError>
     tokens.expect(Kind::With)?;
     Ok(Some(isolation(tokens)?))
 }
-

@@ -134,11 +134,7 @@ fn counted(tokens: &mut Tokens<'_>) -> Result<Chosen, ReadError>
 }
 
 #[tactic(auto, unfolding(crate::specs::StatementReading::column_items))]
-fn column_items(
-    alloc: Global,
-    tokens: &mut Tokens<'_>,
-    bound: usize,
-) -> Result<Chosen, ReadError>
+fn column_items(alloc: Global, tokens: &mut Tokens<'_>, bound: usize) -> Result<Chosen, ReadError>
     requires most { tokens.old.most ≡ bound }
     ensures { Gives (spec.column_items bound) tokens.old result tokens.new }
 {
@@ -204,10 +200,7 @@ fn column_at(scope: &Scope<'_>, place: u8) -> Option<Column>
     scope.columns.get(place as usize).copied()
 }
 
-fn with_column(
-    mut columns: Items<Column>,
-    column: Option<Column>,
-) -> Result<Items<Column>, Memory>
+fn with_column(mut columns: Items<Column>, column: Option<Column>) -> Result<Items<Column>, Memory>
     ensures { IfOk result (λ all. all ≡ columns ++ act.and_column column []) }
 {
     if let Some(column) = column {
@@ -234,11 +227,7 @@ pub fn columns_at(
 }
 
 /// What a SELECT gives.
-pub fn items_of(
-    alloc: Global,
-    scope: &Scope<'_>,
-    chosen: Chosen,
-) -> Result<Checked<Items2>, Memory>
+pub fn items_of(alloc: Global, scope: &Scope<'_>, chosen: Chosen) -> Result<Checked<Items2>, Memory>
     ensures { IfOk result (λ x. x ≡ act.items_of (names_of scope.now) chosen) }
 {
     match chosen {

@@ -86,12 +86,7 @@ fn built(statement: Statement) -> Result<Statement, SqlFault>
     }
 }
 
-fn judged(
-    alloc: Global,
-    head: &Head,
-    text: &[u8],
-    found: &[Token],
-) -> Result<Statement, SqlFault>
+fn judged(alloc: Global, head: &Head, text: &[u8], found: &[Token]) -> Result<Statement, SqlFault>
     requires tokens { found.now ≡ tokens text.now }
     requires short { length text.now ≤ 1048576 }
     ensures { spec.Answers head.now text.now result }

@@ -10,7 +10,9 @@ use crate::assignment::{Target, assigned, targets};
 use crate::condition::condition;
 use crate::found::limited;
 use crate::level::level;
-use crate::list::{Chosen, Listed, columns_at, items, items_of, maybe_columns, places_of, separated};
+use crate::list::{
+    Chosen, Listed, columns_at, items, items_of, maybe_columns, places_of, separated,
+};
 use crate::rows::{placed_row, stored_fault, stored_row};
 use crate::scope::{Scope, scope_of, table_of};
 use crate::short::short_statement;
@@ -191,7 +193,15 @@ fn insert(
     tokens.expect(Kind::Open)?;
     let literals = separated(alloc, Listed::Literal, tokens, bound)?;
     let close = tokens.expect(Kind::Close)?;
-    Ok(inserted(alloc, head, line, table, columns, literals.as_slice(), close)?)
+    Ok(inserted(
+        alloc,
+        head,
+        line,
+        table,
+        columns,
+        literals.as_slice(),
+        close,
+    )?)
 }
 
 #[tactic(auto, unfolding(crate::specs::Actions::updated))]
@@ -238,7 +248,16 @@ fn update(
     let scope = scope_of(head, line, table);
     let cond = filter(alloc, &scope, tokens, bound)?;
     let level = level(tokens)?;
-    Ok(updated(alloc, head, line, &scope, table, targets.as_slice(), cond, level)?)
+    Ok(updated(
+        alloc,
+        head,
+        line,
+        &scope,
+        table,
+        targets.as_slice(),
+        cond,
+        level,
+    )?)
 }
 
 #[tactic(auto, unfolding(crate::specs::Actions::deleted))]

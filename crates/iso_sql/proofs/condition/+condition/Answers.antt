@@ -1,4 +1,4 @@
-use Rattle.std.proofs.Common.{◌≡◌, ◌-◌, ℕ, [], ◌∷◌, arith, ap, sym, ◌∙◌}
+use Rattle.std.proofs.Common.{◌-◌, [], ◌∷◌, arith, sym, ◌∙◌}
 use Rattle.std.proofs.lemmas.Result.{err_from_is_err_and}
 use Rattle.iso_grammar.specs.declared.token.Kind.TheVariants as k
 use Rattle.iso_sql.specs.Names.{names_of}
@@ -6,7 +6,7 @@ use Rattle.iso_sql.specs.Actions.{both, any}
 use Rattle.iso_sql.specs.ConditionReading.{negation, and_next, or_next, conjunction, disjunction, paren_at, deep_paren, open_paren}
 use Rattle.std.proofs.lemmas.Bool.{le-ltb, lt-ltb}
 use Rattle.iso_sql.proofs.Steps.{paren_deep, paren_open}
-use Rattle.iso_grammar.proofs.Folds.{gives_as, rest_of, rest_of-first, goes_on, errs_here, stops_here, ends_here}
+use Rattle.iso_grammar.proofs.Folds.{gives_as, rest_of-first, goes_on, errs_here, stops_here, ends_here}
 use Rattle.iso_sql.proofs.condition.+condition.Goals as goal
 use Rattle.iso_sql.proofs.condition.+condition.Goals.{conjunction-else-loop-turn-test, conjunction-then-loop-turn-test+then-not-sees, disjunction-else-loop-turn-test, disjunction-then-loop-turn-test+then-not-sees}
 

@@ -1,7 +1,5 @@
-use Rattle.std.proofs.Common.{◌≡◌, ℕ, Bool, true, false, List, ◌+◌, ◌-◌, ◌≤◌, refl, sym, ap, ◌∙◌, arith}
-use Rattle.iso_grammar.specs.declared.token.Token.{Token}
+use Rattle.std.proofs.Common.{true, false, ◌+◌, ◌-◌, sym, ap, ◌∙◌, arith}
 use Rattle.iso_sql.specs.Names.{names_of}
-use Rattle.iso_grammar.specs.Reading.{Parser, Outcome}
 use Rattle.iso_sql.specs.ConditionReading.{scan}
 use Rattle.iso_sql.proofs.ScanSteps.{opens, compares, joins_and, joins_or, closed}
 use Rattle.iso_sql.proofs.condition.skip.Goals as goal
