@@ -3,7 +3,7 @@ ghost use Rattle.iso_locklist.specs.Lists.{IsHeads, IsSingle, StaySingle, holds_
 ghost use Rattle.iso_locklist.specs.Places.{IsLimited, IsSameLimits, all_taken, cancelled, each_line, edges_in, is_covered, is_grantable_in, is_spared, line_at, need_of, released, room_for, taken, wait_in, changed};
 ghost use Rattle.iso_locklist.specs.declared.places.Place.{Place as Entry};
 ghost use Rattle.iso_queue.specs.Lines.{asked, bits_of, claimed, hold_of, is_granted, is_guarded_against, is_used, settled, wait_for, would_wait};
-ghost use Rattle.iso_queue.specs.Locks.{dropped, hold_on, others_guard, without_briefs};
+ghost use Rattle.iso_queue.specs.Locks.{dropped, freed, hold_on, others_guard, without_briefs};
 ghost use Rattle.iso_queue.specs.Limits as limits;
 ghost use Rattle.iso_queue.specs.Locks as locks;
 ghost use Rattle.iso_queue.specs.Queues as queues;
@@ -224,6 +224,8 @@ impl LockList {
         requires { conn.0 < 32 }
         ensures line { line_at self.new.places name ≡ released (line_at self.old.places name) conn }
         ensures others { (n : Other) → name_eq name n ≡ false → line_at self.new.places n ≡ line_at self.old.places n }
+        ensures holds { holds_in self.new.places ≡ freed conn name (holds_in self.old.places) }
+        ensures waits { waits_in self.new.places ≡ waits_in self.old.places }
         ensures single { StaySingle self.old.places self.new.places }
         ensures limits { IsSameLimits self.new self.old }
     {
