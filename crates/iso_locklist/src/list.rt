@@ -183,8 +183,9 @@ impl LockList {
 
     /// Requests the mode on the name. `Granted`: the connection holds it, with what it held before. `Queued`: it waits.
     /// Its need is a slot, or none where it holds or awaits the name. `AtShare`, `AtCapacity`: the need is at that limit,
-    /// whatever the queue. `Memory`: want of memory. After a fault nothing changed. Its cost is the number of names, and at
-    /// most the product of those who hold and those who await the name.
+    /// whatever the queue. `Memory`: want of memory. After a fault nothing changed. Where the connection waits nowhere, who
+    /// held no name twice and had one wait at most still does. Its cost is the number of names, and at most the product of
+    /// those who hold and those who await the name.
     pub fn request(
         &mut self,
         conn: Conn,
@@ -324,8 +325,8 @@ impl LockList {
         let _ = &self.places;
     }
 
-    /// Law: where that is so of each connection, and none but those of the head, at most 32, holds or awaits a name, the
-    /// total is the sum of the counts in the lists.
+    /// Law: where no connection holds a name twice or has more than one wait, and none but those of the head, at most 32,
+    /// holds or awaits a name, the total is the sum of the counts in the lists.
     pub fn lists_count_all_names(&self, head: &Head)
         ensures { length head.now.conns ≤ 32 → ((c : Who) → IsSingle self.now.places c) → IsHeads head.now self.now.places → all_taken self.now.places ≡ limits.all_taken head.now (holds_in self.now.places) (waits_in self.now.places) }
     {
