@@ -1,7 +1,7 @@
 -- A connection that holds no name twice, and has one wait at most, stays so.
 use Rattle.std.proofs.Common.{◌≡◌, ◌≤◌, ◌+◌, ℕ, Bool, true, false, not, ◌&&◌, List, [], ◌∷◌, map, refl, ap, sym, subst, ◌∙◌, arith}
 use Rattle.std.specs.Option.{option_map, option_map_or}
-use Rattle.std.specs.Prelude.{count_by, filter, find, if◌then◌else◌, is_some, None, Option, Some}
+use Rattle.std.specs.Prelude.{count_by, filter, if◌then◌else◌, is_some, None, Option, Some}
 use Rattle.std.proofs.lemmas.Bool.{eqb-true}
 use Rattle.std.proofs.lemmas.Cmp.{nat_eq_equiv}
 use Rattle.iso_locklist.specs.Lists.{IsSingle, named_wait, waits_in}
@@ -17,7 +17,7 @@ use Rattle.iso_locklist.proofs.Waits.{wait_told}
 use Rattle.iso_modes.specs.Terms.{is_brief, is_fresh}
 use Rattle.iso_modes.specs.declared.Mode.{Mode}
 use Rattle.iso_modes.specs.declared.Term.{Term}
-use Rattle.iso_queue.specs.Lines.{Line, asked, claimed, granted, has_edge, is_granted, is_holder, queued, raised, settled, settled_hold, taken_in, unqueued, wait_for, waiter_of}
+use Rattle.iso_queue.specs.Lines.{Line, asked, claimed, granted, has_edge, is_granted, is_holder, queued, raised, settled_hold, taken_in, wait_for, waiter_of}
 use Rattle.iso_queue.specs.Queues as queues
 use Rattle.iso_queue.specs.declared.types.Hold.{Hold}
 use Rattle.iso_queue.specs.declared.types.Waiter.{Waiter}
@@ -79,11 +79,22 @@ waits_by : (c : Conn) (p : Place) (ps : List Place) (n : Name) (q : Line) (b : B
     → all_waits c (updated ps n q) + waits c (line_at ps n).waiters ≡ all_waits c ps + waits c q.waiters
     → all_waits c (updated (p ∷ ps) n q) + waits c (line_at (p ∷ ps) n).waiters ≡ all_waits c (p ∷ ps) + waits c q.waiters
 waits_by c p ps n q true e ih =
-    omega (arith, ap (all_waits c) (updated_here p ps n q e), ap (λ (l : Line). waits c l.waiters) (line_here p ps n e),
-    waits_cons c (record { name = p.name; queue = q }) ps, waits_cons c p ps)
+    omega (
+      arith,
+      ap (all_waits c) (updated_here p ps n q e),
+      ap (λ (l : Line). waits c l.waiters) (line_here p ps n e),
+      waits_cons c (record { name = p.name; queue = q }) ps,
+      waits_cons c p ps,
+    )
 waits_by c p ps n q false e ih =
-    omega (arith, ih, ap (all_waits c) (updated_past p ps n q e), ap (λ (l : Line). waits c l.waiters) (line_past p ps n e),
-    waits_cons c p (updated ps n q), waits_cons c p ps)
+    omega (
+      arith,
+      ih,
+      ap (all_waits c) (updated_past p ps n q e),
+      ap (λ (l : Line). waits c l.waiters) (line_past p ps n e),
+      waits_cons c p (updated ps n q),
+      waits_cons c p ps,
+    )
 
 waits_updated : (c : Conn) (ps : List Place) (n : Name) (q : Line)
     → all_waits c (updated ps n q) + waits c (line_at ps n).waiters ≡ all_waits c ps + waits c q.waiters
@@ -115,15 +126,23 @@ fewer t r (x ∷ xs) = fewer_by t r x xs (r x) refl (fewer t r xs)
 holds_settled : (c d : Conn) (s : Bool) (hs : List Hold) → holds d (map (settled_hold c s) hs) ≡ holds d hs
 holds_settled c d s [] = refl
 holds_settled c d s (h ∷ hs) =
-    omega (arith, hold_cons d (settled_hold c s h) (map (settled_hold c s) hs), hold_cons d h hs, holds_settled c d s hs,
-    ap (λ (x : Conn). one (conn_eq x d)) (conn_by h (conn_eq h.conn c && (is_fresh h.term && not s))))
+    omega (
+      arith,
+      hold_cons d (settled_hold c s h) (map (settled_hold c s) hs),
+      hold_cons d h hs,
+      holds_settled c d s hs,
+      ap (λ (x : Conn). one (conn_eq x d)) (conn_by h (conn_eq h.conn c && (is_fresh h.term && not s))),
+    )
 
 changed_holders : (change : Change) (c d : Conn) (n : Name) (q : Line) → holds d (changed change c n q).holders ≤ holds d q.holders
 changed_holders Change.Release c d n q = fewer (λ (h : Hold). conn_eq h.conn d) (λ (h : Hold). not (conn_eq h.conn c)) q.holders
 changed_holders Change.Cancel c d n q = omega arith
 changed_holders (Change.Settle spare) c d n q =
-    omega (arith, fewer (λ (h : Hold). conn_eq h.conn d) (λ (h : Hold). not (conn_eq h.conn c && is_brief h.term)) (map (settled_hold c (is_spared spare n)) q.holders),
-    holds_settled c d (is_spared spare n) q.holders)
+    omega (
+      arith,
+      fewer (λ (h : Hold). conn_eq h.conn d) (λ (h : Hold). not (conn_eq h.conn c && is_brief h.term)) (map (settled_hold c (is_spared spare n)) q.holders),
+      holds_settled c d (is_spared spare n) q.holders,
+    )
 
 changed_waiters : (change : Change) (c d : Conn) (n : Name) (q : Line) → waits d (changed change c n q).waiters ≤ waits d q.waiters
 changed_waiters Change.Release c d n q = omega arith

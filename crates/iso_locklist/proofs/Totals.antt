@@ -1,7 +1,6 @@
 -- The total is the sum of the counts.
-use Rattle.std.proofs.Common.{◌≡◌, ◌≤◌, ◌<◌, ◌+◌, ◌-◌, ℕ, zero, suc, Bool, true, false, List, [], ◌∷◌, length, map, refl, ap, sym, subst, ◌∙◌, arith}
+use Rattle.std.proofs.Common.{◌≡◌, ◌≤◌, ◌+◌, ◌-◌, ℕ, zero, suc, true, List, length, map, refl, ap, sym, subst, ◌∙◌, arith}
 use Rattle.std.specs.List.{range_with_len, sum_by}
-use Rattle.std.specs.Prelude.{nat_lt}
 use Rattle.std.proofs.lemmas.Bool.{le-ltb}
 use Rattle.std.proofs.lemmas.List.FromFn.{sum_by-map-range_with_len_more}
 use Rattle.iso_locklist.specs.Lists.{IsHeads, IsSingle, holds_in, waits_in}
@@ -9,7 +8,6 @@ use Rattle.iso_locklist.specs.Places.{all_taken, are_apart, names, taken, taken_
 use Rattle.iso_locklist.specs.declared.places.Place.{Place}
 use Rattle.iso_locklist.proofs.Taken.{taken_in_lists}
 use Rattle.iso_queue.specs.Limits as limits
-use Rattle.iso_types.specs.Head.{conns, is_conn}
 use Rattle.iso_types.specs.declared.head.Head.{Head}
 use Rattle.iso_types.specs.declared.value.Conn.{Conn}
 

@@ -3,7 +3,7 @@ ghost use Rattle.iso_locklist.specs.Lists.{IsHeads, IsSingle, StaySingle, holds_
 ghost use Rattle.iso_locklist.specs.Places.{IsLimited, IsSameLimits, all_taken, cancelled, each_line, edges_in, is_covered, is_grantable_in, is_spared, line_at, need_of, released, room_for, taken, wait_in, changed};
 ghost use Rattle.iso_locklist.specs.declared.places.Place.{Place as Entry};
 ghost use Rattle.iso_queue.specs.Lines.{asked, bits_of, claimed, hold_of, is_granted, is_guarded_against, is_used, settled, wait_for, would_wait};
-ghost use Rattle.iso_queue.specs.Locks.{dropped, hold_on, others_guard, without_briefs};
+ghost use Rattle.iso_queue.specs.Locks.{dropped, freed, hold_on, others_guard, without_briefs};
 ghost use Rattle.iso_queue.specs.Limits as limits;
 ghost use Rattle.iso_queue.specs.Locks as locks;
 ghost use Rattle.iso_queue.specs.Queues as queues;
@@ -183,8 +183,9 @@ impl LockList {
 
     /// Requests the mode on the name. `Granted`: the connection holds it, with what it held before. `Queued`: it waits.
     /// Its need is a slot, or none where it holds or awaits the name. `AtShare`, `AtCapacity`: the need is at that limit,
-    /// whatever the queue. `Memory`: want of memory. After a fault nothing changed. Its cost is the number of names, and at
-    /// most the product of those who hold and those who await the name.
+    /// whatever the queue. `Memory`: want of memory. After a fault nothing changed. Where the connection waits nowhere, who
+    /// held no name twice and had one wait at most still does. Its cost is the number of names, and at most the product of
+    /// those who hold and those who await the name.
     pub fn request(
         &mut self,
         conn: Conn,
@@ -224,6 +225,8 @@ impl LockList {
         requires { conn.0 < 32 }
         ensures line { line_at self.new.places name ≡ released (line_at self.old.places name) conn }
         ensures others { (n : Other) → name_eq name n ≡ false → line_at self.new.places n ≡ line_at self.old.places n }
+        ensures holds { holds_in self.new.places ≡ freed conn name (holds_in self.old.places) }
+        ensures waits { waits_in self.new.places ≡ waits_in self.old.places }
         ensures single { StaySingle self.old.places self.new.places }
         ensures limits { IsSameLimits self.new self.old }
     {
@@ -322,8 +325,8 @@ impl LockList {
         let _ = &self.places;
     }
 
-    /// Law: where that is so of each connection, and none but those of the head, at most 32, holds or awaits a name, the
-    /// total is the sum of the counts in the lists.
+    /// Law: where no connection holds a name twice or has more than one wait, and none but those of the head, at most 32,
+    /// holds or awaits a name, the total is the sum of the counts in the lists.
     pub fn lists_count_all_names(&self, head: &Head)
         ensures { length head.now.conns ≤ 32 → ((c : Who) → IsSingle self.now.places c) → IsHeads head.now self.now.places → all_taken self.now.places ≡ limits.all_taken head.now (holds_in self.now.places) (waits_in self.now.places) }
     {
