@@ -1,12 +1,11 @@
 -- The range of a column holds of each row of which the condition is true.
-use Rattle.std.proofs.Common.{◌≡◌, ℕ, ℤ, Bool, true, false, List, [], ◌∷◌, refl, ap, subst, ◌∙◌, sym, eqb-true}
-use Rattle.std.specs.Cmp.{signed_Decides}
-use Rattle.std.specs.Cmp.Lexicographic.{same_text, slice_cmp, texts_ties}
+use Rattle.std.proofs.Common.{◌≡◌, ℕ, Bool, true, false, List, [], ◌∷◌, refl, ap, subst, ◌∙◌, sym, eqb-true}
 use Rattle.std.specs.Option.{option_map_or}
-use Rattle.std.specs.Ordering.{int_cmp, is_eq, is_ge, is_le, nat_cmp}
+use Rattle.std.specs.Ordering.{is_eq, is_ge, is_le}
 use Rattle.std.specs.Prelude.{◌||◌, ◌&&◌, ◌==◌, Some, None, Option, if◌then◌else◌, slice_get, slice_index_or}
 use Rattle.std.specs.declared.cmp.Ordering.{Ordering}
 use Rattle.std.specs.declared.cmp.Ordering.TheVariants.{Equal, Greater, Less}
+use Rattle.iso_predicate.proofs.Orders.{value_same}
 use Rattle.iso_predicate.specs.Bounded.{MissesNoRow, bounds_hold, high_holds, low_holds, range_holds}
 use Rattle.iso_predicate.specs.Plan.{bounds_at, bounds_in, bounds_of, common_of, first_path, greater_by, inclusive, lesser_by, path_by, range_by, range_of, tighter_high, tighter_low}
 use Rattle.iso_predicate.specs.Truth.{both, compared, known, truth, truth_at, value_at}
@@ -26,36 +25,17 @@ use Rattle.iso_types.specs.declared.head.Range.{Range}
 use Rattle.iso_types.specs.declared.value.IndexId.{IndexId}
 use Rattle.iso_types.specs.declared.value.TableId.{TableId}
 use Rattle.iso_types.specs.declared.value.Value.{Value}
-use Rattle.iso_types.specs.declared.value.Value.TheVariants.{Int, Null, Text}
+use Rattle.iso_types.specs.declared.value.Value.TheVariants.{Null}
 
-both_true : (a b : Truth) → both a b ≡ True → (a ≡ True) × (b ≡ True)
+pub both_true : (a b : Truth) → both a b ≡ True → (a ≡ True) × (b ≡ True)
 both_true True b e = (refl, e)
 both_true False b e = absurd (cc)
 both_true Unknown True e = absurd (cc)
 both_true Unknown False e = absurd (cc)
 both_true Unknown Unknown e = absurd (cc)
 
-both_hold : (a b : Truth) → a ≡ True → b ≡ True → both a b ≡ True
+pub both_hold : (a b : Truth) → a ≡ True → b ≡ True → both a b ≡ True
 both_hold a b p q = rw (p, q) refl
-
--- values that compare as equal are the same
-int_same : (m n : ℤ) → int_cmp m n ≡ Equal → m ≡ n
-int_same m n e = (signed_Decides m n).0 (ap is_eq e)
-
-text_same : (s t : List ℕ) → slice_cmp nat_cmp s t ≡ Equal → s ≡ t
-text_same s t e = same_text s t (sym (texts_ties s t ∙ ap is_eq e))
-
-value_same : (v w : Value) → value_cmp v w ≡ Equal → v ≡ w
-unfolding value_cmp
-value_same Null Null e = refl
-value_same Null (Int n) e = absurd (cc)
-value_same Null (Text t) e = absurd (cc)
-value_same (Int m) Null e = absurd (cc)
-value_same (Int m) (Int n) e = ap Int (int_same m n e)
-value_same (Int m) (Text t) e = absurd (cc)
-value_same (Text s) Null e = absurd (cc)
-value_same (Text s) (Int n) e = absurd (cc)
-value_same (Text s) (Text t) e = ap Text (text_same s t e)
 
 -- the stricter of two bounds at one value holds where both do
 stricter_holds : (from past : Op) (i j : Bool) (v x y : Value) → x ≡ y
@@ -64,7 +44,7 @@ stricter_holds : (from past : Op) (i j : Bool) (v x y : Value) → x ≡ y
 stricter_holds from past true j v x y same p q = rw same q
 stricter_holds from past false j v x y same p q = p
 
-low_hold : (a b : Option Edge) (v : Value) → low_holds a v ≡ True → low_holds b v ≡ True → low_holds (tighter_low a b) v ≡ True
+pub low_hold : (a b : Option Edge) (v : Value) → low_holds a v ≡ True → low_holds b v ≡ True → low_holds (tighter_low a b) v ≡ True
 low_hold None b v p q = q
 low_hold (Some a) None v p q = p
 low_hold (Some a) (Some b) v p q = go (value_cmp a.value b.value) refl
@@ -74,7 +54,7 @@ low_hold (Some a) (Some b) v p q = go (value_cmp a.value b.value) refl
     go Greater e = p
     go Equal e = stricter_holds Ge Gt a.inclusive b.inclusive v a.value b.value (value_same a.value b.value e) p q
 
-high_hold : (a b : Option Edge) (v : Value) → high_holds a v ≡ True → high_holds b v ≡ True → high_holds (tighter_high a b) v ≡ True
+pub high_hold : (a b : Option Edge) (v : Value) → high_holds a v ≡ True → high_holds b v ≡ True → high_holds (tighter_high a b) v ≡ True
 high_hold None b v p q = q
 high_hold (Some a) None v p q = p
 high_hold (Some a) (Some b) v p q = go (value_cmp a.value b.value) refl
@@ -85,7 +65,7 @@ high_hold (Some a) (Some b) v p q = go (value_cmp a.value b.value) refl
     go Equal e = stricter_holds Le Lt a.inclusive b.inclusive v a.value b.value (value_same a.value b.value e) p q
 
 -- what two ranges have in common holds where both hold
-common_hold : (a b : Option Range) (v : Value) → bounds_hold a v ≡ True → bounds_hold b v ≡ True → bounds_hold (common_of a b) v ≡ True
+pub common_hold : (a b : Option Range) (v : Value) → bounds_hold a v ≡ True → bounds_hold b v ≡ True → bounds_hold (common_of a b) v ≡ True
 common_hold None b v p q = q
 common_hold (Some a) None v p q = p
 common_hold (Some a) (Some b) v p q =

@@ -3,3 +3,5 @@ pub mod Setting
 pub mod Paths
 pub mod Bounded
 pub mod Overflows
+pub mod Orders
+pub mod Intersections

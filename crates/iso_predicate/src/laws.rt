@@ -1,10 +1,11 @@
 ghost use Rattle.std.specs.Prelude.{List};
 ghost use Rattle.iso_predicate.specs.Assigned.{OverflowIsOfNumbers};
-ghost use Rattle.iso_predicate.specs.Bounded.{MissesNoRow};
+ghost use Rattle.iso_predicate.specs.Bounded.{IsIntersection, MissesNoRow};
 ghost use Rattle.iso_sql.specs.declared.statement.Assignment.{Assignment as Setting};
 ghost use Rattle.iso_sql.specs.declared.statement.Condition.{Condition as Search};
 ghost use Rattle.iso_types.specs.declared.head.Column.{Column as Definition};
 ghost use Rattle.iso_types.specs.declared.head.Head.{Head as Declared};
+ghost use Rattle.iso_types.specs.declared.head.Range.{Range as Between};
 ghost use Rattle.iso_types.specs.declared.value.TableId.{TableId as Id};
 ghost use Rattle.iso_types.specs.declared.value.Value.{Value as Cell};
 
@@ -20,4 +21,11 @@ pub fn paths_miss_no_row()
 #[tactic(auto, using(crate::proofs::Overflows::overflow_is_of_numbers))]
 pub fn only_numbers_overflow()
     ensures { (columns : List Definition) (a : Setting) (row : List Cell) → OverflowIsOfNumbers columns a row }
+{}
+
+/// Law: what two ranges have in common is their intersection: it holds of a value exactly where both
+/// hold. No bound may be NULL, as no literal of a comparison is.
+#[tactic(auto, using(crate::proofs::Intersections::is_intersection))]
+pub fn common_ranges_are_intersections()
+    ensures { (a : Between) (b : Between) (v : Cell) → IsIntersection a b v }
 {}

@@ -9,7 +9,7 @@ mod plans;
 
 pub use assignments::{AssignFault, assign, nulls};
 pub use conditions::{Truth, keep};
-pub use laws::{only_numbers_overflow, paths_miss_no_row};
+pub use laws::{common_ranges_are_intersections, only_numbers_overflow, paths_miss_no_row};
 pub use plans::{Path, plan};
 
 #[cfg(test)]
