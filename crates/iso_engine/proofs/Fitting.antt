@@ -1,6 +1,5 @@
 -- What a row that fits its table, and a condition and a new row that the head allows, come to.
-use Rattle.std.proofs.Common.{◌≡◌, ℕ, Bool, true, false, not, ◌&&◌, List, [], ◌∷◌, refl, sym, ap, ◌∙◌, subst, Option, Some, None, length, nat_lt, IsTrue, suc, get_or, ◌<◌, ◌≤◌, ◌⊎◌, inl, inr, arith}
-use Rattle.std.specs.List.{list_any}
+use Rattle.std.proofs.Common.{◌≡◌, ℕ, Bool, true, false, ◌&&◌, List, [], ◌∷◌, refl, sym, ap, ◌∙◌, subst, Option, Some, None, length, nat_lt, suc, get_or, ◌<◌, ◌≤◌, ◌⊎◌, inl, inr, arith}
 use Rattle.std.specs.Option.{option_map_or}
 use Rattle.std.specs.Prelude.{slice_get, ◌||◌}
 use Rattle.std.proofs.lemmas.Bool.{lt-ltb, ltb-true}
@@ -9,7 +8,7 @@ use Rattle.iso_engine.proofs.Lines.{first_of, second_of}
 use Rattle.iso_predicate.specs.Assigned.{has_null}
 use Rattle.iso_predicate.specs.Truth.{is_within, within_at}
 use Rattle.iso_sql.specs.Sound.{are_stored, columns_of, is_typed, of_kind, sound_at}
-use Rattle.iso_sql.specs.declared.statement.Condition.{Condition, fold-Condition, map-Condition, roll-Condition}
+use Rattle.iso_sql.specs.declared.statement.Condition.{Condition, map-Condition, roll-Condition}
 use Rattle.iso_sql.specs.declared.statement.Condition.TheFolds.{fold-roll-Condition, ind-Condition}
 use Rattle.iso_sql.specs.declared.statement.Condition.TheOpen.{Condition-F}
 use Rattle.iso_types.specs.Head.{all_fit, fits_column, fits_kind, is_null, row_fits}

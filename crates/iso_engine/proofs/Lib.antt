@@ -8,3 +8,4 @@ pub mod Looks
 pub mod Start
 pub mod Words
 pub mod Outcomes
+pub mod Complete

@@ -1,9 +1,10 @@
 -- The words of the command line, and what a run of the program answers and writes.
-use Rattle.std.specs.Prelude.{◌≡◌, ℕ, ◌≤◌, ◌⊎◌, List, [], ◌∷◌, ◌++◌, length, Option, String, codes, string_bytes, map}
+use Rattle.std.specs.Prelude.{◌≡◌, ℕ, ◌≤◌, ◌⊎◌, List, [], ◌∷◌, ◌++◌, length, Option, Some, String, codes, string_bytes, map}
 use Rattle.std.specs.Fmt.{decimal}
 use Rattle.std.specs.Global.{Global}
 use Rattle.std.specs.Io.KnownBytes.{Appends}
 use Rattle.iso_conduct.specs.Legal.{IsFinished, IsLegal}
+use Rattle.iso_conduct.specs.Whole.{IsWhole}
 use Rattle.iso_history.specs.declared.entry.Entry.{Entry}
 use Rattle.iso_io.specs.Moves.{AppendsPart}
 use Rattle.iso_render.specs.Transcript.{transcript}
@@ -79,6 +80,15 @@ pub record IsAnswered (bytes : List ℕ) (status : ℕ) (history : List Entry) (
   pub outcome : IsOutcome bytes status history old new
   pub headline : IsHeadline bytes status history old new
   pub exact : IsExact bytes status
+
+-- the source was read to its end, all of the transcript is written, and every statement is answered
+abbrev pub IsComplete : Script → ℕ → List Entry → Option (List ℕ) → Option (List ℕ) → Option (List ℕ) → Type 0
+IsComplete script status history left old new =
+    (status ≡ 0) × (left ≡ Some []) × Appends old new (transcript script history) × IsWhole script history
+
+-- bytes that are no more than a script may have, and read as this script
+abbrev pub IsScript : List ℕ → Script → Type 0
+IsScript bytes script = (length bytes ≤ 1048576) × reads bytes script
 
 -- a bad line is told, or memory was wanting
 abbrev pub IsRefusal : ℕ → ℕ → List Entry → Option (List ℕ) → Option (List ℕ) → Type 0

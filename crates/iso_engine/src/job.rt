@@ -1,12 +1,13 @@
-ghost use Rattle.std.specs.Prelude.{◌≡◌, ℕ, ◌≤◌, ◌↔◌, List, [], ◌∷◌, ◌++◌, string_bytes, length, true, IsTrue, IfOk, codes};
+ghost use Rattle.std.specs.Prelude.{◌≡◌, ℕ, ◌≤◌, ◌⊎◌, Some, ◌↔◌, List, [], ◌∷◌, ◌++◌, string_bytes, length, true, IsTrue, IfOk, codes};
 ghost use Rattle.std.specs.Io.KnownBytes.{Appends, Consumes};
 ghost use Rattle.iso_conduct.specs.Legal.{IsFinished};
 ghost use Rattle.iso_history.specs.Makers.{by_dispatcher};
 ghost use Rattle.iso_history.specs.declared.entry.Act.TheVariants.{Finish as Ends};
-ghost use Rattle.iso_engine.specs.Job.{IsAnswered, IsRefusal, IsRow, IsTold, refusal_at, texts, usage};
+ghost use Rattle.iso_engine.specs.Job.{IsAnswered, IsComplete, IsRefusal, IsRow, IsScript, IsTold, refusal_at, texts, usage};
 ghost use Rattle.iso_io.specs.Moves.{AppendsPart, HasRisen};
 ghost use Rattle.iso_script.specs.Built.{IsBuilt};
 ghost use Rattle.iso_script.specs.Numbered.{rises_above};
+ghost use Rattle.iso_script.specs.declared.script.Script.{Script as Program};
 
 use crate::run::run_serial;
 use iso_history::{Act, Entry, History, Who};
@@ -148,6 +149,9 @@ pub fn db2iso<R: Threads + Wait + Sync, S: Source, K: Sink, G: Gate + Sync>(
     ensures sink_fault { result.status ≡ 4 → HasRisen (K.faults sink.old) (K.faults sink.new) }
     ensures outcome { IsRow (texts words.now) → (bytes : List ℕ) × Consumes (S.left source.old) (S.left source.new) bytes
         × IsAnswered bytes result.status result.history.items (K.held sink.old) (K.held sink.new) }
+    ensures complete { IsRow (texts words.now) → (bytes : List ℕ) → S.left source.old ≡ Some bytes → (script : Program) → IsScript bytes script
+        → ¬ HasRisen (S.faults source.old) (S.faults source.new) → ¬ HasRisen (K.faults sink.old) (K.faults sink.new)
+        → IsComplete script result.status result.history.items (S.left source.new) (K.held sink.old) (K.held sink.new) ⊎ (result.status ≡ 5) }
 {
     if !is_row(words) {
         let _ = write_whole(sink, b"USAGE\n");

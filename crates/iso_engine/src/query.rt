@@ -31,12 +31,7 @@ pub struct Query<'a> {
 
 /// Keeps a row that was shown, as the query gives it, where it meets the condition. It takes no memory but for a row
 /// that it keeps, and copies that once.
-fn keep_row(
-    alloc: Global,
-    query: &Query<'_>,
-    row: &Row,
-    kept: &mut Rows,
-) -> Result<(), Memory>
+fn keep_row(alloc: Global, query: &Query<'_>, row: &Row, kept: &mut Rows) -> Result<(), Memory>
     requires { IsTrue (is_within (length row.now) query.now.cond.now) }
     ensures { OnOk result (kept.new ≡ kept_with (select_of query.now) kept.old row.now) }
 {
