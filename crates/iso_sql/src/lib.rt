@@ -20,3 +20,6 @@ pub use reader::take_statement;
 pub use rows::{placed_row, stored_fault, stored_row, stored_value, stores};
 pub use scope::{Scope, gives, name_of, scope_of, table_of, table_place};
 pub use statement::{Assignment, Condition, Expr, Items2, Op, Sets, Statement};
+
+#[cfg(test)]
+mod tests;
