@@ -1,4 +1,3 @@
-pub mod Gathered
 pub mod RuleLaws
 pub mod ReadLaws
 pub mod BuiltLaws

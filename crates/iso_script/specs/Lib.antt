@@ -1,6 +1,11 @@
 pub mod Built
 pub mod Numbered
+pub mod Naming
+pub mod Events
+pub mod Statements
 pub mod Rules
+pub mod Advance
+pub mod Unbuilt
 pub mod Reading
 pub mod RuleReading
 pub mod Steps
