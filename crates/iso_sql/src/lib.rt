@@ -1,6 +1,10 @@
-//! Statements: what one statement of a script asks for.
+//! Statements: what one statement of a script asks for, and how its text is read.
 #![tactic(auto)]
 
+mod rows;
+mod scope;
 mod statement;
 
+pub use rows::{placed_row, stored_fault, stored_row, stored_value, stores};
+pub use scope::{Scope, gives, name_of, scope_of, table_of, table_place};
 pub use statement::{Assignment, Condition, Expr, Items2, Op, Sets, Statement};
