@@ -33,8 +33,15 @@ use Rattle.iso_script.specs.declared.reader.Place.TheVariants as place
 use Rattle.iso_script.specs.declared.reader.Reader.{Reader}
 use Rattle.iso_script.specs.declared.words.ColumnWords.{ColumnWords}
 use Rattle.iso_script.specs.Advance.{advance, with_head, with_setting, with_set}
-use Rattle.iso_script.specs.Naming.{declared_fault, has_table, connection_place, connection_fault, connection_of, is_connection, places, gives}
+use Rattle.iso_script.specs.Naming.{declared_fault, has_table, connection_place, connection_fault, connection_of, is_connection, places}
+use Rattle.iso_sql.specs.Names.{gives}
 use Rattle.iso_script.specs.Events.{columns_fault, configured, declared, table_fault, connected, stated, expired, pictured, plain, whole_line}
+use Rattle.iso_script.specs.Keyed.{full_fault, index_words, indexed, repeats_keys, row_fault, rowed, values_fault}
+use Rattle.iso_sql.specs.Names.{columns_in, table_in, table_names, table_of, table_place}
+use Rattle.iso_sql.specs.Rows.{stored_row}
+use Rattle.iso_types.specs.Head.{row_fits}
+use Rattle.iso_types.specs.declared.head.IndexDef.{IndexDef}
+use Rattle.iso_script.proofs.RowLaws.{named-fits, rows-grow, stored-fits}
 use Rattle.iso_script.specs.Rules.{rule}
 use Rattle.iso_script.specs.Reading.{fits, ReadsFrom, reads, start, is_ended}
 use Rattle.iso_script.specs.Statements as gq
@@ -49,7 +56,8 @@ is_before _ = false
 record Sound (s : Reader) : Type 0 where
   tables : length s.script.head.tables ≤ 16
   conns : length s.script.head.conns ≤ 1
-  rows : s.script.head.rows ≡ []
+  rows : list_all (is_fitting s.script.head) s.script.head.rows ≡ true
+  some_rows : length s.script.head.rows ≤ 1000
   indexes : s.script.head.indexes ≡ []
   none : is_before s.place ≡ true → s.script.lines ≡ []
   few : length s.script.lines ≤ 1000
@@ -164,6 +172,7 @@ moved s p q h is before open_ = record {
   tables = h.tables;
   conns = h.conns;
   rows = h.rows;
+  some_rows = h.some_rows;
   indexes = h.indexes;
   none = λ _. h.none (ap is_before is ∙ before);
   few = h.few;
@@ -180,13 +189,14 @@ empty_here s h is = h.none (ap is_before is)
 not_ended : (s : Reader) (p : Place) → s.place ≡ p → is_ended (at_place s p) ≡ false → is_ended s ≡ true → ⊥
 not_ended s p is open_ e = false_true (sym open_ ∙ ap (λ q. is_ended (at_place s q)) (sym is) ∙ e)
 
-headed : (s : Reader) (head : Head) → Sound s → s.place ≡ place.Head → length head.tables ≤ 16 → length head.conns ≤ 1 → head.rows ≡ [] → head.indexes ≡ [] → Sound (with_head s head)
-headed s head h is tables conns rows indexes =
+headed : (s : Reader) (head : Head) → Sound s → s.place ≡ place.Head → length head.tables ≤ 16 → length head.conns ≤ 1 → list_all (is_fitting head) head.rows ≡ true → length head.rows ≤ 1000 → head.indexes ≡ [] → Sound (with_head s head)
+headed s head h is tables conns rows some_rows indexes =
     let empty : s.script.lines ≡ [] = empty_here s h is in
     record {
       tables = tables;
       conns = conns;
       rows = rows;
+      some_rows = some_rows;
       indexes = indexes;
       none = λ _. empty;
       few = h.few;
@@ -204,6 +214,7 @@ asked s n c x h is there built sound few =
       tables = h.tables;
       conns = h.conns;
       rows = h.rows;
+      some_rows = h.some_rows;
       indexes = h.indexes;
       none = λ b. absurd (false_true (sym (ap is_before is) ∙ b));
       few = let less : length s.script.lines < 1000 = ltb-true (length s.script.lines) 1000 few in omega (arith, length-append s.script.lines (line ∷ []), less);
@@ -224,6 +235,7 @@ closed_here s n h is shut = record {
   tables = h.tables;
   conns = h.conns;
   rows = h.rows;
+  some_rows = h.some_rows;
   indexes = h.indexes;
   none = λ b. absurd (false_true b);
   few = h.few;
@@ -248,14 +260,14 @@ config-sound s n line w e h is p =
   where
     set_up : (s : Reader) (n : ℕ) (x : Setting) → Sound s → s.place ≡ place.Head → Sound (advance s n (event.Config x))
     set_up s n x h is =
-        let r = headed s (record s.script.head { config = with_setting s.script.head.config x }) h is h.tables h.conns h.rows h.indexes in
-        record { tables = r.tables; conns = r.conns; rows = r.rows; indexes = r.indexes; none = r.none; few = r.few; lines = r.lines; manned = r.manned; closed = r.closed; ended = r.ended }
+        let r = headed s (record s.script.head { config = with_setting s.script.head.config x }) h is h.tables h.conns h.rows h.some_rows h.indexes in
+        record { tables = r.tables; conns = r.conns; rows = r.rows; some_rows = r.some_rows; indexes = r.indexes; none = r.none; few = r.few; lines = r.lines; manned = r.manned; closed = r.closed; ended = r.ended }
 
 table-sound : (s : Reader) (n : ℕ) (line : List ℕ) (t : Token) (cs : List ColumnWords) (e : Event) → Sound s → s.place ≡ place.Head → checked e None ≡ declared s.script.head line t cs → Sound (advance s n e)
 unfolding declared
 table-sound s n line t cs e h is p =
     subst (λ (z : Event). Sound (advance s n z)) (sym (value_is (checked e None) (declared s.script.head line t cs) p))
-    (headed s _ h is (one_more _ (few (nat_lt 8 (length cs) || nat_le 16 (length s.script.head.tables)) refl (sym (fault_is (checked e None) (declared s.script.head line t cs) p)))) h.conns h.rows h.indexes)
+    (headed s _ h is (one_more _ (few (nat_lt 8 (length cs) || nat_le 16 (length s.script.head.tables)) refl (sym (fault_is (checked e None) (declared s.script.head line t cs) p)))) h.conns (rows-grow s.script.head _ s.script.head.rows h.rows) h.some_rows h.indexes)
   where
     own : Option Fault
     own = least (declared_fault (has_table s.script.head line t) line t) (columns_fault line None [] cs)
@@ -270,11 +282,33 @@ table-sound s n line t cs e h is p =
     one_more : (d : TableDef) → length s.script.head.tables < 16 → length (s.script.head.tables ++ d ∷ []) ≤ 16
     one_more d lt = omega (arith, length-append s.script.head.tables (d ∷ []))
 
+-- a row that is stored without a fault fits its table
+row-fits : (head : Head) (line : List ℕ) (first t : Token) (vs : List Token) (close : Token) → row_fault head (table_names head line t) first t (table_of head line t) vs close ≡ None → row_fits head (table_of head line t) (stored_row line vs) ≡ true
+unfolding table_names table_of at
+row-fits head line first t vs close e = go (is_some (table_place head line t)) refl e
+  where
+    go : (b : Bool) → is_some (table_place head line t) ≡ b → cond b (values_fault head line first (table_of head line t) (columns_in head (table_place head line t)) vs close) (at t Unknown) ≡ None → row_fits head (table_in (table_place head line t)) (stored_row line vs) ≡ true
+    go true is q =
+        named-fits head line t (stored_row line vs) (table_place head line t) refl is
+        (stored-fits line (columns_in head (table_place head line t)) vs close (no_least_right (full_fault head (table_of head line t)) _ (no_least_right (unless (not (repeats_keys head (table_of head line t) (stored_row line vs))) first Duplicate) _ q)))
+    go false is q = absurd (none_is (record { place = t.start; cause = Unknown }) q)
+
+row-sound : (s : Reader) (n : ℕ) (line : List ℕ) (first t : Token) (vs : List Token) (close : Token) (e : Event) → Sound s → s.place ≡ place.Head → is_built s e ≡ true → checked e None ≡ rowed s.script.head line first t vs close → Sound (advance s n e)
+unfolding rowed
+row-sound s n line first t vs close e h is built p =
+    let v : e ≡ (rowed s.script.head line first t vs close).value = value_is (checked e None) (rowed s.script.head line first t vs close) p in
+    let few : nat_lt (length s.script.head.rows) 1000 ≡ true = ap (is_built s) (sym v) ∙ built in
+    subst (λ (z : Event). Sound (advance s n z)) (sym v)
+    (headed s _ h is h.tables h.conns (all_snoc (is_fitting s.script.head) s.script.head.rows _ h.rows (row-fits s.script.head line first t vs close (sym (fault_is (checked e None) (rowed s.script.head line first t vs close) p)))) (one_more _ (ltb-true (length s.script.head.rows) 1000 few)) h.indexes)
+  where
+    one_more : (f : FirstRow) → length s.script.head.rows < 1000 → length (s.script.head.rows ++ f ∷ []) ≤ 1000
+    one_more f lt = omega (arith, length-append s.script.head.rows (f ∷ []))
+
 connect-sound : (s : Reader) (n : ℕ) (line : List ℕ) (a : Token) (l : _) (e : Event) → Sound s → s.place ≡ place.Head → is_built s e ≡ true → checked e None ≡ connected s.script.head line a l → Sound (advance s n e)
 unfolding connected
 connect-sound s n line a l e h is built p =
     let v : e ≡ (connected s.script.head line a l).value = value_is (checked e None) (connected s.script.head line a l) p in
-    subst (λ (z : Event). Sound (advance s n z)) (sym v) (headed s _ h is h.tables (one_more _ (and_left _ _ (ap (is_built s) (sym v) ∙ built))) h.rows h.indexes)
+    subst (λ (z : Event). Sound (advance s n z)) (sym v) (headed s _ h is h.tables (one_more _ (and_left _ _ (ap (is_built s) (sym v) ∙ built))) h.rows h.some_rows h.indexes)
   where
     one_more : (d : ConnDef) → (length s.script.head.conns == 0) ≡ true → length (s.script.head.conns ++ d ∷ []) ≤ 1
     one_more d e = let z : length s.script.head.conns ≡ 0 = eqb-true (length s.script.head.conns) 0 e in omega (arith, length-append s.script.head.conns (d ∷ []))
@@ -299,14 +333,24 @@ end-sound s n e h is built p =
     let v : e ≡ event.End = value_is (checked e None) (plain event.End) p in
     subst (λ (z : Event). Sound (advance s n z)) (sym v) (closed_here s n h is (is_false s.unfinished (ap (is_built s) (sym v) ∙ built)))
 
+no_index : (s : Reader) (d : IndexDef) (n : ℕ) (e : Event) → e ≡ event.Index d → is_built s e ≡ true → Sound (advance s n e)
+no_index s d n e v built = absurd (false_true (ap (is_built s) (sym v) ∙ built))
+
 head-sound : (s : Reader) (n : ℕ) (line : List ℕ) (ts : List Token) (e : Event) → Sound s → s.place ≡ place.Head → is_built s e ≡ true → rule place.Head s line ts (checked e None) → Sound (advance s n e)
+unfolding indexed
 head-sound s n line ts e h is built w = elim w [
   | inl v ↦ config-sound s n line v.5.0 e h is v.5.5.1
   | inr o ↦ elim o [
     | inl v ↦ table-sound s n line v.5.0 v.5.5.5.0 e h is v.5.5.5.5.5.1
     | inr o ↦ elim o [
-      | inl v ↦ connect-sound s n line v.5.0 v.5.5.0 e h is built v.5.5.5.1
-      | inr v ↦ subst (λ (z : Event). Sound (advance s n z)) (sym (value_is (checked e None) (plain event.Begin) v.5.1)) (moved s place.Head place.Body h is refl false_true)
+      | inl v ↦ no_index s _ n e (value_is (checked e None) (indexed s.script.head line (index_words v.0 v.5.0 v.5.5.0 v.5.5.5.5.0 v.5.5.5.5.5.5.0)) v.5.5.5.5.5.5.5.5.1) built
+      | inr o ↦ elim o [
+        | inl v ↦ row-sound s n line v.0 v.5.0 v.5.5.5.0 v.5.5.5.5.0 e h is built v.5.5.5.5.5.1
+        | inr o ↦ elim o [
+          | inl v ↦ connect-sound s n line v.5.0 v.5.5.0 e h is built v.5.5.5.1
+          | inr v ↦ subst (λ (z : Event). Sound (advance s n z)) (sym (value_is (checked e None) (plain event.Begin) v.5.1)) (moved s place.Head place.Body h is refl false_true)
+        ]
+      ]
     ]
   ]
 ]
@@ -343,6 +387,7 @@ step_sound place.After s n line ts e h is built w =
       tables = h.tables;
       conns = h.conns;
       rows = h.rows;
+      some_rows = h.some_rows;
       indexes = h.indexes;
       none = λ b. absurd (false_true b);
       few = h.few;
@@ -353,7 +398,7 @@ step_sound place.After s n line ts e h is built w =
     }
 
 start-sound : Sound start
-start-sound = record { tables = omega arith; conns = omega arith; rows = refl; indexes = refl; none = λ _. refl; few = omega arith; lines = refl; manned = λ _. refl; closed = refl; ended = λ _. refl }
+start-sound = record { tables = omega arith; conns = omega arith; rows = refl; some_rows = omega arith; indexes = refl; none = λ _. refl; few = omega arith; lines = refl; manned = λ _. refl; closed = refl; ended = λ _. refl }
 
 lines_sound : (texts : List (List ℕ)) (s : Reader) (n : ℕ) (end : Reader) → Sound s → ReadsFrom s n texts end → Sound end × (is_ended end ≡ true)
 lines_sound [] s n end h r = (subst Sound (sym r.1) h, ap is_ended r.1 ∙ r.0)
@@ -368,17 +413,14 @@ built_of : (end : Reader) → Sound end → is_ended end ≡ true → IsBuilt en
 built_of end h e = record {
   tables = h.tables;
   conns = h.conns;
-  rows = ap (list_all (is_fitting end.script.head)) h.rows;
+  rows = h.rows;
   indexes = h.indexes;
-  some_rows = none end.script.head.rows h.rows;
+  some_rows = h.some_rows;
   few = h.few;
   lines = h.lines;
   manned = h.manned;
   closed = h.closed ∙ h.ended e;
 }
-  where
-    none : (rows : List FirstRow) → rows ≡ [] → length rows ≤ 1000
-    none rows e = let z : length rows ≡ 0 = ap length e in omega arith
 
 -- what is read is built
 pub reads-built : (bytes : List ℕ) (s : Script) → reads bytes s → IsBuilt s

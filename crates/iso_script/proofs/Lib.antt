@@ -1,5 +1,6 @@
 pub mod RuleLaws
 pub mod ReadLaws
+pub mod RowLaws
 pub mod BuiltLaws
 pub mod NumberLaws
 pub mod Exact

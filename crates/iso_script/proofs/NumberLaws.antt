@@ -50,6 +50,8 @@ step_rising : (s : Reader) (n : ℕ) (e : Event) → Rising s n → Rising (adva
 step_rising s n event.First h = record { above = omega arith; rises = h.rises; below = still-below n s.script.lines h.below }
 step_rising s n (event.Config x) h = record { above = omega arith; rises = h.rises; below = still-below n s.script.lines h.below }
 step_rising s n (event.Table d) h = record { above = omega arith; rises = h.rises; below = still-below n s.script.lines h.below }
+step_rising s n (event.Index d) h = record { above = omega arith; rises = h.rises; below = still-below n s.script.lines h.below }
+step_rising s n (event.Row f) h = record { above = omega arith; rises = h.rises; below = still-below n s.script.lines h.below }
 step_rising s n (event.Connect d) h = record { above = omega arith; rises = h.rises; below = still-below n s.script.lines h.below }
 step_rising s n event.Begin h = record { above = omega arith; rises = h.rises; below = still-below n s.script.lines h.below }
 step_rising s n (event.Asked c free w) h =

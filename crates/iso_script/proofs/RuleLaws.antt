@@ -26,7 +26,8 @@ use Rattle.iso_script.specs.declared.words.TypeWords.TheVariants as ty
 use Rattle.iso_script.specs.Statements as gq
 use Rattle.iso_script.specs.Rules as gs
 use Rattle.iso_script.specs.Events.{configured, declared, connected, stated, expired, pictured, plain}
-use Rattle.iso_script.specs.RuleReading.{flag, number, first_line, switch, switched, numbered, setting_words, config_line, varchar, type_words, not_null, column, columns, table_line, isolation, connect_line, begin_line, statement, statement_line, expire_line, snapshot_line, end_line, head_line, body_line, rule}
+use Rattle.iso_script.specs.Keyed.{index_words, rowed, indexed}
+use Rattle.iso_script.specs.RuleReading.{flag, number, first_line, switch, switched, numbered, setting_words, config_line, varchar, type_words, not_null, column, columns, table_line, literal, literals, row_line, index_on, index_line, isolation, connect_line, begin_line, statement, statement_line, expire_line, snapshot_line, end_line, head_line, body_line, rule}
 
 flag-reads : (kind : Kind) → Reads (λ n. flag kind) (gs.flag kind) (kind ∷ []) (kind ∷ []) true
 unfolding flag
@@ -87,6 +88,29 @@ unfolding table_line
 table_line-reads s line =
     then (word k.Table) (λ _. then (word k.Name) (λ t. then (word k.Open) (λ _. then columns-reads (λ cs. then (word k.Close) (λ _. done (declared s.script.head line t cs)) refl) refl) refl) refl) refl
 
+literal-reads : Reads (λ n. literal) gs.literal (k.Integer ∷ k.One ∷ k.Text ∷ k.Null ∷ []) [] false
+unfolding literal
+literal-reads = or_else (word k.Integer) (or_else (word k.One) (or_else (word k.Text) (word k.Null) refl) refl) refl
+
+literals-reads : Reads literals (gs.separated gs.literal) (k.Integer ∷ k.One ∷ k.Text ∷ k.Null ∷ []) (k.Comma ∷ []) false
+unfolding literals
+literals-reads = then literal-reads (λ first. then (repeated (then (word k.Comma) (λ _. literal-reads) refl) refl) (λ more. done (first ∷ more)) refl) refl
+
+row_line-reads : (s : Reader) (line : List ℕ) → Reads (row_line s line) (gs.row_line s line) (k.Row ∷ []) [] false
+unfolding row_line
+row_line-reads s line =
+    then (word k.Row) (λ first. then (word k.Name) (λ t. then (word k.Open) (λ _. then literals-reads (λ vs. then (word k.Close) (λ close. done (rowed s.script.head line first t vs close)) refl) refl) refl) refl) refl
+
+index_on-reads : (s : Reader) (line : List ℕ) (unique : Option Token) → Reads (λ n. index_on s line unique) (gs.index_on s line unique) (k.Index ∷ []) [] false
+unfolding index_on
+index_on-reads s line unique =
+    then (word k.Index) (λ w. then (word k.Name) (λ i. then (word k.On) (λ _. then (word k.Name) (λ t. then (word k.Open) (λ _. then (word k.Name) (λ c. then (word k.Close) (λ _.
+    done (indexed s.script.head line (index_words unique w i t c))) refl) refl) refl) refl) refl) refl) refl
+
+index_line-reads : (s : Reader) (line : List ℕ) → Reads (λ n. index_line s line) (gs.index_line s line) (k.Unique ∷ k.Index ∷ []) [] false
+unfolding index_line
+index_line-reads s line = then (or_else (then (word k.Unique) (λ u. done (Some u)) refl) (done None) refl) (λ unique. index_on-reads s line unique) refl
+
 isolation-reads : Reads (λ n. isolation) gs.isolation (k.Ur ∷ k.Cs ∷ k.Rs ∷ k.Rr ∷ []) (k.Rr ∷ k.Rs ∷ k.Cs ∷ k.Ur ∷ []) true
 unfolding isolation
 isolation-reads =
@@ -136,7 +160,7 @@ is_read {first = first} {goes = goes} {null = null} r = record { first = first; 
 
 head_line-read : (s : Reader) (line : List ℕ) → IsRead (head_line s line) (gs.head_line s line)
 unfolding head_line
-head_line-read s line = is_read (or_else (config_line-reads s line) (or_else (table_line-reads s line) (or_else (connect_line-reads s line) begin_line-reads refl) refl) refl)
+head_line-read s line = is_read (or_else (config_line-reads s line) (or_else (table_line-reads s line) (or_else (index_line-reads s line) (or_else (row_line-reads s line) (or_else (connect_line-reads s line) begin_line-reads refl) refl) refl) refl) refl)
 
 body_line-read : (s : Reader) (line : List ℕ) → IsRead (body_line s line) (gs.body_line s line)
 unfolding body_line

@@ -39,6 +39,8 @@ abbrev pub advance : Reader → ℕ → Event → Reader
 advance s n event.First = record s { place = place.Head }
 advance s n (event.Config x) = record (with_head s (record s.script.head { config = with_setting s.script.head.config x })) { set = with_set s.set x }
 advance s n (event.Table d) = with_head s (record s.script.head { tables = s.script.head.tables ++ d ∷ [] })
+advance s n (event.Index d) = with_head s (record s.script.head { indexes = s.script.head.indexes ++ d ∷ [] })
+advance s n (event.Row f) = with_head s (record s.script.head { rows = s.script.head.rows ++ f ∷ [] })
 advance s n (event.Connect d) = with_head s (record s.script.head { conns = s.script.head.conns ++ d ∷ [] })
 advance s n event.Begin = record s { place = place.Body }
 advance s n (event.Asked c free w) =

@@ -32,7 +32,8 @@ use Rattle.iso_script.specs.declared.words.SettingName.TheVariants as name
 use Rattle.iso_script.specs.declared.words.SettingWords.{SettingWords}
 use Rattle.iso_script.specs.declared.words.TypeWords.{TypeWords}
 use Rattle.iso_script.specs.declared.words.TypeWords.TheVariants as ty
-use Rattle.iso_script.specs.Naming.{name_of, gives, named, declared_fault, has_table, has_connection, connection_of, connection_fault, ranged, ranged_or_low}
+use Rattle.iso_sql.specs.Names.{gives}
+use Rattle.iso_script.specs.Naming.{named, declared_fault, has_table, has_connection, connection_of, connection_fault, ranged, ranged_or_low}
 
 -- what passes a limit of the whole line stands at place 1
 abbrev pub whole_line : Cause → Option Fault

@@ -2,6 +2,7 @@ pub mod Built
 pub mod Numbered
 pub mod Naming
 pub mod Events
+pub mod Keyed
 pub mod Statements
 pub mod Rules
 pub mod Advance

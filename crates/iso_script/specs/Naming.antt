@@ -2,25 +2,16 @@
 use Rattle.std.specs.List.{list_any}
 use Rattle.std.specs.Option.{option_map_or}
 use Rattle.std.specs.Prelude.{ℕ, Bool, true, false, not, ◌&&◌, if◌then◌else◌, List, [], ◌∷◌, find, nat_le, slice_get, is_some, ℤ, pos, negsuc, Option, Some, None}
-use Rattle.iso_types.specs.Ids.{text_eq}
 use Rattle.iso_types.specs.declared.head.Head.{Head}
 use Rattle.iso_types.specs.declared.value.Conn.{Conn}
-use Rattle.iso_types.specs.declared.value.TableId.{TableId}
 use Rattle.iso_grammar.specs.declared.fault.Cause.TheVariants.{Duplicate, Limit, Unknown}
 use Rattle.iso_grammar.specs.declared.fault.Fault.{Fault}
 use Rattle.iso_grammar.specs.declared.token.Token.{Token}
 use Rattle.iso_grammar.specs.Faults.{least, unless}
-use Rattle.iso_grammar.specs.Values.{text_of, name, integer}
+use Rattle.iso_grammar.specs.Values.{text_of, integer}
+use Rattle.iso_sql.specs.Names.{gives, name_of}
 
 -- ---- names
-
--- the name that a token gives; None where it has more than 32 bytes
-abbrev pub name_of : List ℕ → Token → Option (List ℕ)
-name_of line t = name (text_of line t)
-
--- the token gives this name
-unfoldable pub gives : List ℕ → Token → List ℕ → Bool
-gives line t n = option_map_or (λ m. text_eq m n) (name_of line t) false
 
 -- the name that a token declares; one that is too long says nothing
 unfoldable pub named : List ℕ → Token → List ℕ

@@ -1,5 +1,5 @@
 -- Reading the lines of a script, as the code does.
-use Rattle.std.specs.Prelude.{ℕ, Bool, true, false, List, [], ◌∷◌, None}
+use Rattle.std.specs.Prelude.{ℕ, Bool, true, false, List, [], ◌∷◌, Option, None}
 use Rattle.iso_types.specs.declared.head.Head.{Head}
 use Rattle.iso_types.specs.declared.head.Isolation.{Isolation}
 use Rattle.iso_types.specs.declared.head.Isolation.TheVariants as level
@@ -10,7 +10,7 @@ use Rattle.iso_grammar.specs.declared.token.Kind.{Kind}
 use Rattle.iso_grammar.specs.declared.token.Kind.TheVariants as k
 use Rattle.iso_grammar.specs.declared.token.Token.{Token}
 use Rattle.iso_grammar.specs.Faults.{checked}
-use Rattle.iso_grammar.specs.Reading.{Parser, pure, ◌>>=◌, ◌>>◌, either, expect, many}
+use Rattle.iso_grammar.specs.Reading.{Parser, pure, ◌>>=◌, ◌>>◌, either, expect, many, optional}
 use Rattle.iso_script.specs.declared.event.Event.{Event}
 use Rattle.iso_script.specs.declared.event.Event.TheVariants as event
 use Rattle.iso_script.specs.declared.reader.Place.{Place}
@@ -22,6 +22,7 @@ use Rattle.iso_script.specs.declared.words.SettingName.TheVariants as name
 use Rattle.iso_script.specs.declared.words.SettingWords.{SettingWords}
 use Rattle.iso_script.specs.declared.words.TypeWords.{TypeWords}
 use Rattle.iso_script.specs.declared.words.TypeWords.TheVariants as ty
+use Rattle.iso_script.specs.Keyed.{index_words, rowed, indexed}
 use Rattle.iso_script.specs.Events.{configured, declared, connected, stated, expired, pictured, plain}
 
 unfoldable pub flag : Kind → Parser Bool
@@ -103,6 +104,41 @@ table_line s line n = do
   expect k.Close
   pure (declared s.script.head line t cs)
 
+unfoldable pub literal : Parser Token
+literal = either (k.Integer ∷ []) (expect k.Integer) (either (k.One ∷ []) (expect k.One) (either (k.Text ∷ []) (expect k.Text) (expect k.Null)))
+
+abbrev pub next_literal : Parser Token
+next_literal = expect k.Comma >> literal
+
+unfoldable pub literals : ℕ → Parser (List Token)
+literals n = do
+  first ← literal
+  more ← many (k.Comma ∷ []) next_literal n
+  pure (first ∷ more)
+
+unfoldable pub row_line : Reader → List ℕ → ℕ → Parser (Checked Event)
+row_line s line n = do
+  first ← expect k.Row
+  t ← expect k.Name
+  expect k.Open
+  vs ← literals n
+  close ← expect k.Close
+  pure (rowed s.script.head line first t vs close)
+
+unfoldable pub index_on : Reader → List ℕ → Option Token → Parser (Checked Event)
+index_on s line unique = do
+  word ← expect k.Index
+  i ← expect k.Name
+  expect k.On
+  t ← expect k.Name
+  expect k.Open
+  c ← expect k.Name
+  expect k.Close
+  pure (indexed s.script.head line (index_words unique word i t c))
+
+unfoldable pub index_line : Reader → List ℕ → Parser (Checked Event)
+index_line s line = optional (k.Unique ∷ []) (expect k.Unique) >>= index_on s line
+
 unfoldable pub isolation : Parser Isolation
 isolation =
     either (k.Ur ∷ []) (expect k.Ur >> pure level.Ur)
@@ -143,7 +179,8 @@ unfoldable pub end_line : Parser (Checked Event)
 end_line = expect k.End >> pure (plain event.End)
 
 unfoldable pub head_line : Reader → List ℕ → ℕ → Parser (Checked Event)
-head_line s line n = either (k.Config ∷ []) (config_line s line) (either (k.Table ∷ []) (table_line s line n) (either (k.Connect ∷ []) (connect_line s line) begin_line))
+head_line s line n = either (k.Config ∷ []) (config_line s line) (either (k.Table ∷ []) (table_line s line n) 
+    (either (k.Unique ∷ k.Index ∷ []) (index_line s line) (either (k.Row ∷ []) (row_line s line n) (either (k.Connect ∷ []) (connect_line s line) begin_line))))
 
 unfoldable pub body_line : Reader → List ℕ → ℕ → Parser (Checked Event)
 body_line s line n =

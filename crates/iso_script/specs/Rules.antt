@@ -1,12 +1,12 @@
 -- The lines of a script: what may stand in each position. // this project's own
-use Rattle.std.specs.Prelude.{ℕ, Bool, true, false, List, [], ◌∷◌}
+use Rattle.std.specs.Prelude.{ℕ, Bool, true, false, List, [], ◌∷◌, Option}
 use Rattle.iso_types.specs.declared.head.Isolation.{Isolation}
 use Rattle.iso_types.specs.declared.head.Isolation.TheVariants as level
 use Rattle.iso_grammar.specs.declared.fault.Checked.{Checked}
 use Rattle.iso_grammar.specs.declared.token.Kind.{Kind}
 use Rattle.iso_grammar.specs.declared.token.Kind.TheVariants as k
 use Rattle.iso_grammar.specs.declared.token.Token.{Token}
-use Rattle.iso_grammar.specs.Grammar.{Lang, pure, ◌>>=◌, ◌>>◌, ◌<|>◌, token, many}
+use Rattle.iso_grammar.specs.Grammar.{Lang, pure, ◌>>=◌, ◌>>◌, ◌<|>◌, token, many, optional}
 use Rattle.iso_script.specs.declared.event.Event.{Event}
 use Rattle.iso_script.specs.declared.event.Event.TheVariants as event
 use Rattle.iso_script.specs.declared.reader.Place.{Place}
@@ -19,6 +19,7 @@ use Rattle.iso_script.specs.declared.words.SettingWords.{SettingWords}
 use Rattle.iso_script.specs.declared.words.TypeWords.{TypeWords}
 use Rattle.iso_script.specs.declared.words.TypeWords.TheVariants as ty
 use Rattle.iso_script.specs.Events.{configured, declared, connected, stated, expired, pictured, plain}
+use Rattle.iso_script.specs.Keyed.{index_words, rowed, indexed}
 use Rattle.iso_script.specs.Statements.{statement}
 
 -- one or more, with commas between
@@ -102,6 +103,36 @@ table_line s line = do
   token k.Close
   pure (declared s.script.head line t cs)
 
+-- integer | text | NULL
+abbrev pub literal : Lang Token
+literal = token k.Integer <|> (token k.One <|> (token k.Text <|> token k.Null))
+
+-- ROW t ( literal {, literal} )
+abbrev pub row_line : Reader → List ℕ → Lang (Checked Event)
+row_line s line = do
+  first ← token k.Row
+  t ← token k.Name
+  token k.Open
+  vs ← separated literal
+  close ← token k.Close
+  pure (rowed s.script.head line first t vs close)
+
+-- INDEX i ON t ( c ), whose first token is this one or its own
+abbrev pub index_on : Reader → List ℕ → Option Token → Lang (Checked Event)
+index_on s line unique = do
+  word ← token k.Index
+  i ← token k.Name
+  token k.On
+  t ← token k.Name
+  token k.Open
+  c ← token k.Name
+  token k.Close
+  pure (indexed s.script.head line (index_words unique word i t c))
+
+-- [UNIQUE] INDEX i ON t ( c )
+abbrev pub index_line : Reader → List ℕ → Lang (Checked Event)
+index_line s line = optional (token k.Unique) >>= index_on s line
+
 -- [UR | CS | RS | RR]; without a level CS is meant. // Db2 LUW, 'Isolation levels'
 abbrev pub isolation : Lang Isolation
 isolation = (token k.Ur >> pure level.Ur) <|> ((token k.Cs >> pure level.Cs) <|> ((token k.Rs >> pure level.Rs) <|> ((token k.Rr >> pure level.Rr) <|> pure level.Cs)))
@@ -144,7 +175,7 @@ abbrev pub end_line : Lang (Checked Event)
 end_line = token k.End >> pure (plain event.End)
 
 abbrev pub head_line : Reader → List ℕ → Lang (Checked Event)
-head_line s line = config_line s line <|> (table_line s line <|> (connect_line s line <|> begin_line))
+head_line s line = config_line s line <|> (table_line s line <|> (index_line s line <|> (row_line s line <|> (connect_line s line <|> begin_line))))
 
 abbrev pub body_line : Reader → List ℕ → Lang (Checked Event)
 body_line s line = statement_line s line <|> (expire_line s line <|> (snapshot_line s <|> end_line))

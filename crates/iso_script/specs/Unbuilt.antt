@@ -26,11 +26,13 @@ abbrev pub is_built_asked : What → Bool
 is_built_asked (what.Statement x) = is_built_statement x
 is_built_asked _ = false
 
--- One connection; no `&`; at most 1,000 body lines, and END behind none of them or a COMMIT.
+-- No index; at most 1,000 rows of the head; one connection; no `&`; at most 1,000 body lines, and END behind none of them or a COMMIT.
 abbrev pub is_built : Reader → Event → Bool
 is_built s event.First = true
 is_built s (event.Config x) = is_built_setting x
 is_built s (event.Table d) = true
+is_built s (event.Index d) = false
+is_built s (event.Row f) = nat_lt (length s.script.head.rows) 1000
 is_built s (event.Connect d) = (length s.script.head.conns == 0) && is_built_level d.isolation
 is_built s event.Begin = true
 is_built s (event.Asked c free w) = not free && (nat_lt (length s.script.lines) 1000 && is_built_asked w)

@@ -1,7 +1,7 @@
 //! What a line says.
 
 use crate::script::What;
-use iso_types::{Conn, ConnDef, TableDef};
+use iso_types::{Conn, ConnDef, FirstRow, IndexDef, TableDef};
 
 /// A setting with its value.
 #[derive(Clone, Copy)]
@@ -29,6 +29,8 @@ pub enum Event {
     First,
     Config(Setting),
     Table(TableDef),
+    Index(IndexDef),
+    Row(FirstRow),
     Connect(ConnDef),
     Begin,
     Asked(Option<Conn>, bool, What),

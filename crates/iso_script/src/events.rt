@@ -3,23 +3,23 @@
 ghost use Rattle.std.specs.Prelude.{◌≡◌, ◌≤◌, ◌&&◌, map, length, filter, IfOk, Some, None, [], ℕ};
 ghost use Rattle.std.specs.List.{list_any};
 ghost use Rattle.iso_grammar.specs.declared.fault.Cause.TheVariants as why;
-ghost use Rattle.iso_script.specs.Naming.{gives as names};
+ghost use Rattle.iso_sql.specs.Names.{gives as names};
 ghost use Rattle.iso_script.specs.Events as spec;
 
 use crate::event::{Event, Setting, Settings};
 use crate::naming::{
-    connection_fault, connection_of, declared_fault, gives, has_connection, has_table, named,
-    ranged, ranged_or_low,
+    connection_fault, connection_of, declared_fault, has_connection, has_table, named, ranged,
+    ranged_or_low,
 };
 use crate::script::{Line, What};
 use crate::words::{ColumnWords, SettingName, SettingWords, TypeWords};
 use iso_grammar::{Cause, Checked, Fault, Kind, Token, least, same, unless};
-use iso_sql::Statement;
+use iso_sql::{Statement, gives};
 use iso_types::{Column, ColumnKind, ConnDef, Head, Isolation, Items, Memory, TableDef};
 use std::alloc::Global;
 
 /// A limit of the whole line is passed.
-fn whole_line() -> Option<Fault>
+pub fn whole_line() -> Option<Fault>
     ensures { result ≡ spec.whole_line why.Limit }
 {
     Some(Fault {

@@ -4,6 +4,7 @@
 mod event;
 mod events;
 mod fault;
+mod keyed;
 mod naming;
 mod read;
 mod reader;

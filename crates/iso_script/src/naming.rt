@@ -3,24 +3,9 @@
 ghost use Rattle.std.specs.Prelude.{◌≡◌, ◌≤◌, [], find, IfSome};
 ghost use Rattle.iso_script.specs.Naming as spec;
 
-use iso_grammar::{Cause, Fault, Token, integer, least, name, text_of, unless};
+use iso_grammar::{Cause, Fault, Token, integer, least, text_of, unless};
+use iso_sql::{gives, name_of};
 use iso_types::{Conn, Head, Text};
-
-pub fn name_of(line: &[u8], token: Token) -> Option<Text>
-    ensures { result ≡ spec.name_of line.now token }
-{
-    name(text_of(line, token))
-}
-
-#[tactic(auto, unfolding(crate::specs::Naming::gives))]
-pub fn gives(line: &[u8], token: Token, name: Text) -> bool
-    ensures { result ≡ spec.gives line.now token name }
-{
-    match name_of(line, token) {
-        Some(given) => given == name,
-        None => false,
-    }
-}
 
 fn no_name() -> Text
     ensures { result ≡ [] }
@@ -61,6 +46,16 @@ pub fn has_table(head: &Head, line: &[u8], token: Token) -> bool
         .as_slice()
         .iter()
         .any(|table| gives(line, token, table.name))
+}
+
+#[tactic(auto, unfolding(crate::specs::Naming::has_index))]
+pub fn has_index(head: &Head, line: &[u8], token: Token) -> bool
+    ensures { result ≡ spec.has_index head.now line.now token }
+{
+    head.indexes
+        .as_slice()
+        .iter()
+        .any(|index| gives(line, token, index.name))
 }
 
 #[tactic(auto, unfolding(crate::specs::Naming::has_connection))]

@@ -165,6 +165,8 @@ impl Reader {
             Event::First => self.place = Place::Head,
             Event::Config(setting) => self.configure(setting, number),
             Event::Table(table) => self.script.head.tables.push(table)?,
+            Event::Index(index) => self.script.head.indexes.push(index)?,
+            Event::Row(row) => self.script.head.rows.push(row)?,
             Event::Connect(conn) => self.script.head.conns.push(conn)?,
             Event::Begin => self.place = Place::Body,
             Event::Asked(conn, free, what) => self.ask(number, conn, free, what)?,

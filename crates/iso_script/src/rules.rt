@@ -2,12 +2,14 @@
 
 ghost use Rattle.std.specs.Prelude.{◌≡◌, length, IfOk};
 ghost use Rattle.iso_grammar.specs.Reading.{Gives, all_of};
+ghost use Rattle.iso_script.specs.Keyed.{index_words as words_of};
 ghost use Rattle.iso_script.specs.RuleReading as spec;
 
 use crate::event::Event;
 use crate::events::{configured, connected, declared, expired, pictured, plain, stated};
+use crate::keyed::{indexed, rowed};
 use crate::reader::{Place, Reader};
-use crate::words::{ColumnWords, SettingName, SettingWords, TypeWords};
+use crate::words::{ColumnWords, IndexWords, RowWords, SettingName, SettingWords, TypeWords};
 use iso_grammar::{Checked, Kind, ReadError, Token, Tokens};
 use iso_sql::Statement;
 use iso_types::{Head, Isolation, Items};
@@ -212,6 +214,125 @@ fn table_line(
     Ok(declared(alloc, head, line, table, found.as_slice())?)
 }
 
+#[tactic(auto, unfolding(crate::specs::RuleReading::literal))]
+fn literal(tokens: &mut Tokens<'_>) -> Result<Token, ReadError>
+    ensures { Gives (spec.literal) tokens.old result tokens.new }
+{
+    if tokens.sees(Kind::Integer) {
+        tokens.expect(Kind::Integer)
+    } else if tokens.sees(Kind::One) {
+        tokens.expect(Kind::One)
+    } else if tokens.sees(Kind::Text) {
+        tokens.expect(Kind::Text)
+    } else {
+        tokens.expect(Kind::Null)
+    }
+}
+
+fn next_literal(tokens: &mut Tokens<'_>) -> Result<Token, ReadError>
+    ensures { Gives (spec.next_literal) tokens.old result tokens.new }
+{
+    tokens.expect(Kind::Comma)?;
+    literal(tokens)
+}
+
+#[tactic(auto, unfolding(crate::specs::RuleReading::literals))]
+fn literals(
+    alloc: Global,
+    tokens: &mut Tokens<'_>,
+    bound: usize,
+) -> Result<Items<Token>, ReadError>
+    requires most { tokens.old.most ≡ bound }
+    ensures { Gives (spec.literals bound) tokens.old result tokens.new }
+{
+    let first = literal(tokens)?;
+    let mut all = Items::new(alloc);
+    all.push(first)?;
+    for _turn in 0..bound {
+        if !tokens.sees(Kind::Comma) {
+            break;
+        }
+        let next = next_literal(tokens)?;
+        all.push(next)?;
+    }
+    Ok(all)
+}
+
+#[tactic(auto, unfolding(crate::specs::RuleReading::row_line))]
+fn row_line(
+    alloc: Global,
+    reader: &Reader,
+    line: &[u8],
+    tokens: &mut Tokens<'_>,
+    bound: usize,
+) -> Result<Checked<Event>, ReadError>
+    requires most { tokens.old.most ≡ bound }
+    ensures { Gives (spec.row_line reader.now line.now bound) tokens.old result tokens.new }
+{
+    let first = tokens.expect(Kind::Row)?;
+    let table = tokens.expect(Kind::Name)?;
+    tokens.expect(Kind::Open)?;
+    let values = literals(alloc, tokens, bound)?;
+    let close = tokens.expect(Kind::Close)?;
+    let words = RowWords {
+        first,
+        table,
+        close,
+    };
+    let head = &reader.script.head;
+    Ok(rowed(alloc, head, line, words, values.as_slice())?)
+}
+
+fn index_words(
+    unique: Option<Token>,
+    word: Token,
+    name: Token,
+    table: Token,
+    column: Token,
+) -> IndexWords
+    ensures { result ≡ words_of unique word name table column }
+{
+    IndexWords {
+        first: unique.unwrap_or(word),
+        unique: unique.is_some(),
+        name,
+        table,
+        column,
+    }
+}
+
+#[tactic(auto, unfolding(crate::specs::RuleReading::index_on))]
+fn index_on(
+    reader: &Reader,
+    line: &[u8],
+    unique: Option<Token>,
+    tokens: &mut Tokens<'_>,
+) -> Result<Checked<Event>, ReadError>
+    ensures { Gives (spec.index_on reader.now line.now unique) tokens.old result tokens.new }
+{
+    let word = tokens.expect(Kind::Index)?;
+    let name = tokens.expect(Kind::Name)?;
+    tokens.expect(Kind::On)?;
+    let table = tokens.expect(Kind::Name)?;
+    tokens.expect(Kind::Open)?;
+    let column = tokens.expect(Kind::Name)?;
+    tokens.expect(Kind::Close)?;
+    let words = index_words(unique, word, name, table, column);
+    Ok(indexed(&reader.script.head, line, words))
+}
+
+#[tactic(auto, unfolding(crate::specs::RuleReading::index_line))]
+fn index_line(
+    reader: &Reader,
+    line: &[u8],
+    tokens: &mut Tokens<'_>,
+) -> Result<Checked<Event>, ReadError>
+    ensures { Gives (spec.index_line reader.now line.now) tokens.old result tokens.new }
+{
+    let unique = tokens.take(Kind::Unique)?;
+    index_on(reader, line, unique, tokens)
+}
+
 #[tactic(auto, unfolding(crate::specs::RuleReading::isolation))]
 fn isolation(tokens: &mut Tokens<'_>) -> Result<Isolation, ReadError>
     ensures { Gives (spec.isolation) tokens.old result tokens.new }
@@ -338,6 +459,10 @@ fn head_line(
         config_line(reader, line, tokens)
     } else if tokens.sees(Kind::Table) {
         table_line(alloc, reader, line, tokens, bound)
+    } else if tokens.sees_either(Kind::Unique, Kind::Index) {
+        index_line(reader, line, tokens)
+    } else if tokens.sees(Kind::Row) {
+        row_line(alloc, reader, line, tokens, bound)
     } else if tokens.sees(Kind::Connect) {
         connect_line(reader, line, tokens)
     } else {

@@ -54,6 +54,8 @@ pub fn is_built(reader: &Reader, event: &Event) -> bool
         Event::First => true,
         Event::Config(setting) => is_built_setting(*setting),
         Event::Table(_) => true,
+        Event::Index(_) => false,
+        Event::Row(_) => reader.script.head.rows.len() < 1000,
         Event::Connect(conn) => {
             reader.script.head.conns.len() == 0 && is_built_level(conn.isolation)
         }

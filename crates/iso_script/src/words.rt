@@ -35,3 +35,21 @@ pub struct SettingWords {
     pub word: Token,
     pub value: Token,
 }
+
+/// A ROW line but for its values: its first token, its table, and the parenthesis that closes the values.
+#[derive(Clone, Copy)]
+pub struct RowWords {
+    pub first: Token,
+    pub table: Token,
+    pub close: Token,
+}
+
+/// An INDEX line: its first token, whether that is UNIQUE, the index, its table and its column.
+#[derive(Clone, Copy)]
+pub struct IndexWords {
+    pub first: Token,
+    pub unique: bool,
+    pub name: Token,
+    pub table: Token,
+    pub column: Token,
+}
