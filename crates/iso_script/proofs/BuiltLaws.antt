@@ -68,42 +68,42 @@ record Sound (s : Reader) : Type 0 where
 
 -- ---- what the answers say
 
-some_is : {A : Type 0} (x y : A) → Some x ≡ Some y → x ≡ y
+pub some_is : {A : Type 0} (x y : A) → Some x ≡ Some y → x ≡ y
 some_is x y e = cc
 
-none_is : {A : Type 0} (x : A) → Some x ≡ None → ⊥
+pub none_is : {A : Type 0} (x : A) → Some x ≡ None → ⊥
 none_is x e = cc
 
-false_true : false ≡ true → ⊥
+pub false_true : false ≡ true → ⊥
 false_true e = cc
 
-and_left : (a b : Bool) → (a && b) ≡ true → a ≡ true
+pub and_left : (a b : Bool) → (a && b) ≡ true → a ≡ true
 and_left true b e = refl
 and_left false b e = absurd cc
 
-and_right : (a b : Bool) → (a && b) ≡ true → b ≡ true
+pub and_right : (a b : Bool) → (a && b) ≡ true → b ≡ true
 and_right true b e = e
 and_right false b e = absurd cc
 
-or_left : (a b : Bool) → (a || b) ≡ false → a ≡ false
+pub or_left : (a b : Bool) → (a || b) ≡ false → a ≡ false
 or_left true b e = absurd cc
 or_left false b e = refl
 
-or_right : (a b : Bool) → (a || b) ≡ false → b ≡ false
+pub or_right : (a b : Bool) → (a || b) ≡ false → b ≡ false
 or_right true b e = absurd cc
 or_right false b e = e
 
-is_false : (b : Bool) → not b ≡ true → b ≡ false
+pub is_false : (b : Bool) → not b ≡ true → b ≡ false
 is_false true e = absurd cc
 is_false false e = refl
 
-value_is : (c d : Checked Event) → c ≡ d → c.value ≡ d.value
+pub value_is : (c d : Checked Event) → c ≡ d → c.value ≡ d.value
 value_is c d e = ap (λ (z : Checked Event). z.value) e
 
-fault_is : (c d : Checked Event) → c ≡ d → c.fault ≡ d.fault
+pub fault_is : (c d : Checked Event) → c ≡ d → c.fault ≡ d.fault
 fault_is c d e = ap (λ (z : Checked Event). z.fault) e
 
-no_least_left : (a b : Option Fault) → least a b ≡ None → a ≡ None
+pub no_least_left : (a b : Option Fault) → least a b ≡ None → a ≡ None
 unfolding least
 no_least_left None b e = refl
 no_least_left (Some a) None e = absurd (none_is a e)
@@ -113,7 +113,7 @@ no_least_left (Some a) (Some b) e = go _ e
     go true q = absurd (none_is b q)
     go false q = q
 
-no_least_right : (a b : Option Fault) → least a b ≡ None → b ≡ None
+pub no_least_right : (a b : Option Fault) → least a b ≡ None → b ≡ None
 unfolding least
 no_least_right None b e = e
 no_least_right (Some a) None e = refl
@@ -123,7 +123,7 @@ no_least_right (Some a) (Some b) e = go _ e
     go true q = q
     go false q = absurd (none_is a q)
 
-all_well : (b : Bool) (t : Token) (why : _) → unless b t why ≡ None → b ≡ true
+pub all_well : (b : Bool) (t : Token) (why : _) → unless b t why ≡ None → b ≡ true
 unfolding unless at
 all_well true t why e = refl
 all_well false t why e = absurd (none_is _ e)
@@ -132,7 +132,7 @@ open_snoc : (b : Bool) (ls : List Line) (l : Line) → is_open_behind b (ls ++ l
 open_snoc b [] l = refl
 open_snoc b (k ∷ ls) l = open_snoc (not (is_commit k.what)) ls l
 
-all_snoc : {A : Type 0} (p : A → Bool) (ls : List A) (l : A) → list_all p ls ≡ true → p l ≡ true → list_all p (ls ++ l ∷ []) ≡ true
+pub all_snoc : {A : Type 0} (p : A → Bool) (ls : List A) (l : A) → list_all p ls ≡ true → p l ≡ true → list_all p (ls ++ l ∷ []) ≡ true
 all_snoc p ls l a b = list_all-append p ls (l ∷ []) ∙ ap (λ v. v && (p l && true)) a ∙ ap (λ v. v && true) b
 
 found_passes : (p : ℕ → Bool) (xs : List ℕ) (x : ℕ) → find p xs ≡ Some x → p x ≡ true

@@ -3,4 +3,5 @@ pub mod ReadLaws
 pub mod RowLaws
 pub mod BuiltLaws
 pub mod NumberLaws
+pub mod SoundLaws
 pub mod Exact

@@ -7,6 +7,7 @@ pub mod Statements
 pub mod Rules
 pub mod Advance
 pub mod Unbuilt
+pub mod Sound
 pub mod Reading
 pub mod RuleReading
 pub mod Steps

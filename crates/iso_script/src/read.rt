@@ -4,6 +4,7 @@ ghost use Rattle.std.specs.Prelude.{◌≡◌, ◌≤◌, ◌⊎◌, ℕ, List, 
 ghost use Rattle.iso_grammar.specs.Lines.{lines};
 ghost use Rattle.iso_script.specs.Built.{IsBuilt};
 ghost use Rattle.iso_script.specs.Numbered.{rises_above};
+ghost use Rattle.iso_script.specs.Sound.{IsSound};
 ghost use Rattle.iso_script.specs.Reading as spec;
 ghost use Rattle.iso_script.specs.declared.script.Script as told;
 ghost use Rattle.iso_script.specs.declared.fault.LineCause.{LineCause as Why};
@@ -52,6 +53,7 @@ impl Script {
         ensures read { IfOk result (λ s. spec.reads bytes.now s) }
         ensures built { IfOk result (λ s. IsBuilt s) }
         ensures rising { IfOk result (λ s. rises_above 0 s.lines ≡ true) }
+        ensures sound { IfOk result (λ s. IsSound s) }
         ensures refused { IfErr result (λ e. spec.Refuses bytes.now e) }
     {
         let reader = read_lines(alloc, bytes)?;
@@ -66,5 +68,6 @@ pub fn exactly_one()
     ensures one_script { (bytes : List ℕ) (s t : told.Script) → spec.reads bytes s → spec.reads bytes t → s ≡ t }
     ensures one_bad { (bytes : List ℕ) (m n : ℕ) (v w : Why) → spec.bad bytes m v → spec.bad bytes n w → (m ≡ n) × (v ≡ w) }
     ensures built { (bytes : List ℕ) (s : told.Script) → spec.reads bytes s → IsBuilt s }
+    ensures sound { (bytes : List ℕ) (s : told.Script) → spec.reads bytes s → IsSound s }
     ensures rising { (bytes : List ℕ) (s : told.Script) → spec.reads bytes s → rises_above 0 s.lines ≡ true }
 {}

@@ -1,6 +1,7 @@
 use Rattle.iso_script.proofs.Exact.{one_way, not_both, one_script, one_bad}
 use Rattle.iso_script.proofs.BuiltLaws.{reads-built}
 use Rattle.iso_script.proofs.NumberLaws.{reads-rising}
+use Rattle.iso_script.proofs.SoundLaws.{reads-sound}
 use Rattle.iso_script.proofs.read.exactly_one.Goals as goal
 
 pub returns-clause-one_way : goal.returns-clause-one_way
@@ -20,3 +21,6 @@ returns-clause-built c = reads-built
 
 pub returns-clause-rising : goal.returns-clause-rising
 returns-clause-rising c = reads-rising
+
+pub returns-clause-sound : goal.returns-clause-sound
+returns-clause-sound c = reads-sound
