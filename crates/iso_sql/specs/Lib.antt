@@ -1,3 +1,10 @@
 pub mod Sound
 pub mod Names
 pub mod Rows
+pub mod Actions
+pub mod Conditions
+pub mod ConditionReading
+pub mod Statements
+pub mod StatementReading
+pub mod Unbuilt
+pub mod Texts

@@ -1,10 +1,25 @@
 //! Statements: what one statement of a script asks for, and how its text is read.
 #![tactic(auto)]
 
+mod assignment;
+mod condition;
+mod fault;
+mod found;
+mod level;
+mod list;
+mod read;
+mod reader;
 mod rows;
 mod scope;
+mod short;
 mod statement;
 
+pub use fault::SqlFault;
+pub use read::{is_built, read_statement};
+pub use reader::take_statement;
 pub use rows::{placed_row, stored_fault, stored_row, stored_value, stores};
 pub use scope::{Scope, gives, name_of, scope_of, table_of, table_place};
 pub use statement::{Assignment, Condition, Expr, Items2, Op, Sets, Statement};
+
+#[cfg(test)]
+mod tests;
