@@ -1,143 +1,139 @@
 -- A script that is read has the form that the run relies on.
 use Rattle.std.proofs.Common.{◌≡◌, ℕ, ◌+◌, ◌≤◌, ◌<◌, Bool, true, false, not, cond, List, [], ◌∷◌, ◌++◌, length, map, Option, Some, None, refl, sym, ap, subst, ◌∙◌, inl, inr, length-append, arith}
-use Rattle.std.specs.Prelude.{MatchBool, ◌&&◌, find, nat_lt, slice_get}
+use Rattle.std.specs.Prelude.{MatchBool, ◌&&◌, ◌==◌, ◌||◌, find, nat_lt, nat_le, slice_get, is_some}
 use Rattle.std.specs.List.{list_all}
 use Rattle.std.specs.Option.{option_map, option_map_or}
-use Rattle.std.proofs.lemmas.Bool.{lt-ltb, ltb-true}
+use Rattle.std.proofs.lemmas.Bool.{lt-ltb, ltb-true, leb-false, eqb-true}
 use Rattle.std.proofs.lemmas.List.Folds.{list_all-append}
 use Rattle.std.proofs.lemmas.Option.{slice_get_within}
 use Rattle.iso_types.specs.declared.head.ConnDef.{ConnDef}
+use Rattle.iso_types.specs.declared.head.FirstRow.{FirstRow}
 use Rattle.iso_types.specs.declared.head.Head.{Head}
-use Rattle.iso_types.specs.declared.head.Column.{Column}
 use Rattle.iso_types.specs.declared.head.TableDef.{TableDef}
-use Rattle.iso_types.specs.declared.value.Value.{Value}
-use Rattle.iso_sql.specs.Sound.{are_stored, columns_of, comparisons, comparisons_at, is_typed, sound_at}
-use Rattle.iso_sql.specs.declared.statement.Condition.TheFolds.{fold-roll-Condition}
-use Rattle.iso_sql.specs.declared.statement.Condition.TheOpen.{Condition-F}
-use Rattle.iso_sql.specs.declared.statement.Condition.TheVariants.{rolls-Always}
-use Rattle.iso_sql.specs.declared.statement.Condition.TheVariants as Condition
-use Rattle.iso_script.specs.declared.script.What.{What}
-use Rattle.iso_types.specs.Head.{all_fit, fits_column, fits_kind, is_null, is_table, row_fits}
+use Rattle.iso_sql.specs.Sound.{is_sound_statement}
 use Rattle.iso_sql.specs.declared.statement.Statement.{Statement}
 use Rattle.iso_sql.specs.declared.statement.Statement.TheVariants as statement
+use Rattle.iso_grammar.specs.declared.fault.Cause.TheVariants.{Duplicate, Limit, Unknown}
+use Rattle.iso_grammar.specs.declared.fault.Checked.{Checked}
+use Rattle.iso_grammar.specs.declared.fault.Fault.{Fault}
 use Rattle.iso_grammar.specs.declared.token.Token.{Token}
+use Rattle.iso_grammar.specs.Faults.{at, checked, least, unless}
 use Rattle.iso_grammar.specs.Lex.{is_skipped, tokens}
 use Rattle.iso_grammar.specs.Lines as text
-use Rattle.iso_script.specs.Built.{IsBuilt, is_built_what, is_built_line, is_open_behind, is_commit}
+use Rattle.iso_script.specs.Built.{IsBuilt, is_built_statement, is_built_what, is_built_line, is_fitting, is_open_behind, is_commit}
 use Rattle.iso_script.specs.declared.script.Line.{Line}
 use Rattle.iso_script.specs.declared.script.Script.{Script}
-use Rattle.iso_script.specs.declared.reader.Event.{Event}
-use Rattle.iso_script.specs.declared.reader.Event.TheVariants as event
+use Rattle.iso_script.specs.declared.script.What.{What}
+use Rattle.iso_script.specs.declared.script.What.TheVariants as what
+use Rattle.iso_script.specs.declared.event.Event.{Event}
+use Rattle.iso_script.specs.declared.event.Event.TheVariants as event
+use Rattle.iso_script.specs.declared.event.Setting.{Setting}
 use Rattle.iso_script.specs.declared.reader.Place.{Place}
 use Rattle.iso_script.specs.declared.reader.Place.TheVariants as place
 use Rattle.iso_script.specs.declared.reader.Reader.{Reader}
-use Rattle.iso_script.specs.Rules.{rule, advance, line_of, gives, connection, declared, connected, inserted, inserting, selected, selecting, stated, ended, table0, place_of, place_among, is_column, knows_table, knows_connection, places, table_of, name_of, all_some, value_of, column_of}
+use Rattle.iso_script.specs.declared.words.ColumnWords.{ColumnWords}
+use Rattle.iso_script.specs.Advance.{advance, with_head, with_setting, with_set}
+use Rattle.iso_script.specs.Naming.{declared_fault, has_table, connection_place, connection_fault, connection_of, is_connection, places}
+use Rattle.iso_sql.specs.Names.{gives}
+use Rattle.iso_script.specs.Events.{columns_fault, configured, declared, table_fault, connected, stated, expired, pictured, plain, whole_line}
+use Rattle.iso_script.specs.Keyed.{full_fault, index_words, indexed, repeats_keys, row_fault, rowed, values_fault}
+use Rattle.iso_sql.specs.Names.{columns_in, table_in, table_names, table_of, table_place}
+use Rattle.iso_sql.specs.Rows.{stored_row}
+use Rattle.iso_types.specs.Head.{row_fits}
+use Rattle.iso_types.specs.declared.head.IndexDef.{IndexDef}
+use Rattle.iso_script.proofs.RowLaws.{named-fits, rows-grow, stored-fits}
+use Rattle.iso_script.specs.Rules.{rule}
 use Rattle.iso_script.specs.Reading.{fits, ReadsFrom, reads, start, is_ended}
-
-abbrev tables_at : Place → ℕ
-tables_at place.First = 0
-tables_at place.Table = 0
-tables_at _ = 1
-
-abbrev conns_at : Place → ℕ
-conns_at place.Begin = 1
-conns_at place.Body = 1
-conns_at place.After = 1
-conns_at _ = 0
+use Rattle.iso_script.specs.Statements as gq
+use Rattle.iso_script.specs.Unbuilt.{is_built, is_built_asked}
 
 abbrev is_before : Place → Bool
-is_before place.Body = false
-is_before place.After = false
-is_before _ = true
+is_before place.First = true
+is_before place.Head = true
+is_before _ = false
 
 -- what holds between lines
 record Sound (s : Reader) : Type 0 where
-  tables : length s.script.head.tables ≡ tables_at s.place
-  conns : length s.script.head.conns ≡ conns_at s.place
-  rows : s.script.head.rows ≡ []
+  tables : length s.script.head.tables ≤ 16
+  conns : length s.script.head.conns ≤ 1
+  rows : list_all (is_fitting s.script.head) s.script.head.rows ≡ true
+  some_rows : length s.script.head.rows ≤ 1000
   indexes : s.script.head.indexes ≡ []
   none : is_before s.place ≡ true → s.script.lines ≡ []
   few : length s.script.lines ≤ 1000
   lines : list_all (is_built_line s.script.head) s.script.lines ≡ true
+  manned : length s.script.head.conns ≡ 0 → s.script.lines ≡ []
   closed : is_open_behind false s.script.lines ≡ s.unfinished
   ended : is_ended s ≡ true → s.unfinished ≡ false
 
 -- ---- what the answers say
 
-some_is : {A : Type 0} (x y : A) → Some x ≡ Some y → x ≡ y
+pub some_is : {A : Type 0} (x y : A) → Some x ≡ Some y → x ≡ y
 some_is x y e = cc
 
-none_is : {A : Type 0} (x : A) → Some x ≡ None → ⊥
+pub none_is : {A : Type 0} (x : A) → Some x ≡ None → ⊥
 none_is x e = cc
 
-of_table : (o : Option TableDef) (e : Event) → Some e ≡ option_map event.Table o → (d : TableDef) × (e ≡ event.Table d)
-of_table None e p = absurd (none_is e p)
-of_table (Some d) e p = (d, some_is e (event.Table d) p)
+pub false_true : false ≡ true → ⊥
+false_true e = cc
+
+pub and_left : (a b : Bool) → (a && b) ≡ true → a ≡ true
+and_left true b e = refl
+and_left false b e = absurd cc
+
+pub and_right : (a b : Bool) → (a && b) ≡ true → b ≡ true
+and_right true b e = e
+and_right false b e = absurd cc
+
+pub or_left : (a b : Bool) → (a || b) ≡ false → a ≡ false
+or_left true b e = absurd cc
+or_left false b e = refl
+
+pub or_right : (a b : Bool) → (a || b) ≡ false → b ≡ false
+or_right true b e = absurd cc
+or_right false b e = e
+
+pub is_false : (b : Bool) → not b ≡ true → b ≡ false
+is_false true e = absurd cc
+is_false false e = refl
+
+pub value_is : (c d : Checked Event) → c ≡ d → c.value ≡ d.value
+value_is c d e = ap (λ (z : Checked Event). z.value) e
+
+pub fault_is : (c d : Checked Event) → c ≡ d → c.fault ≡ d.fault
+fault_is c d e = ap (λ (z : Checked Event). z.fault) e
+
+pub no_least_left : (a b : Option Fault) → least a b ≡ None → a ≡ None
+unfolding least
+no_least_left None b e = refl
+no_least_left (Some a) None e = absurd (none_is a e)
+no_least_left (Some a) (Some b) e = go _ e
+  where
+    go : (v : Bool) → cond v (Some b) (Some a) ≡ None → Some a ≡ None
+    go true q = absurd (none_is b q)
+    go false q = q
+
+pub no_least_right : (a b : Option Fault) → least a b ≡ None → b ≡ None
+unfolding least
+no_least_right None b e = e
+no_least_right (Some a) None e = refl
+no_least_right (Some a) (Some b) e = go _ e
+  where
+    go : (v : Bool) → cond v (Some b) (Some a) ≡ None → Some b ≡ None
+    go true q = q
+    go false q = absurd (none_is a q)
+
+pub all_well : (b : Bool) (t : Token) (why : _) → unless b t why ≡ None → b ≡ true
+unfolding unless at
+all_well true t why e = refl
+all_well false t why e = absurd (none_is _ e)
 
 open_snoc : (b : Bool) (ls : List Line) (l : Line) → is_open_behind b (ls ++ l ∷ []) ≡ not (is_commit l.what)
 open_snoc b [] l = refl
 open_snoc b (k ∷ ls) l = open_snoc (not (is_commit k.what)) ls l
 
-all_snoc : (p : Line → Bool) (ls : List Line) (l : Line) → list_all p ls ≡ true → p l ≡ true → list_all p (ls ++ l ∷ []) ≡ true
+pub all_snoc : {A : Type 0} (p : A → Bool) (ls : List A) (l : A) → list_all p ls ≡ true → p l ≡ true → list_all p (ls ++ l ∷ []) ≡ true
 all_snoc p ls l a b = list_all-append p ls (l ∷ []) ∙ ap (λ v. v && (p l && true)) a ∙ ap (λ v. v && true) b
-
-and_right : (a b : Bool) → (a && b) ≡ true → b ≡ true
-and_right true b e = e
-and_right false b e = absurd cc
-
-false_true : false ≡ true → ⊥
-false_true e = cc
-
-of_stated : (script : Script) (line : List ℕ) (a : Token) (x : Option Statement) (e : Event) → Some e ≡ stated script line a x
-    → (st : Statement) × (e ≡ event.Stated st) × (Some st ≡ x) × (nat_lt (length script.lines) 1000 ≡ true)
-unfolding stated
-of_stated script line a x e p = go (knows_connection script.head line a && nat_lt (length script.lines) 1000) x refl p
-  where
-    go : (b : Bool) (x : Option Statement) → (knows_connection script.head line a && nat_lt (length script.lines) 1000) ≡ b → Some e ≡ cond b (option_map event.Stated x) None
-        → (st : Statement) × (e ≡ event.Stated st) × (Some st ≡ x) × (nat_lt (length script.lines) 1000 ≡ true)
-    go true (Some st) is q = (st, some_is e (event.Stated st) q, refl, and_right (knows_connection script.head line a) (nat_lt (length script.lines) 1000) is)
-    go true None is q = absurd (none_is e q)
-    go false x is q = absurd (none_is e q)
-
--- the head allows the statement, and it has a form of this stage
-abbrev is_good : Head → Statement → Bool
-is_good head s = is_built_what head (What.Statement s)
-
-and_left : (a b : Bool) → (a && b) ≡ true → a ≡ true
-and_left true b e = refl
-and_left false b e = e
-
-stored : (cs : List Column) (vs : List Value) → all_fit cs vs ≡ true → are_stored cs vs ≡ true
-stored [] [] e = refl
-stored (c ∷ cs) (v ∷ vs) e =
-    let kind = and_left (fits_kind c.kind v) (not (c.required && is_null v)) (and_left (fits_column c v) (all_fit cs vs) e) in
-    rw kind (stored cs vs (and_right (fits_column c v) (all_fit cs vs) e))
-stored [] (v ∷ vs) e = absurd cc
-stored (c ∷ cs) [] e = absurd cc
-
-there : (head : Head) (d : TableDef) → slice_get head.tables 0 ≡ Some d → is_table head table0 ≡ true
-there head d is = lt-ltb 0 (length head.tables) (slice_get_within head.tables 0 d is)
-
-insert-good : (head : Head) (row : List Value) → row_fits head table0 row ≡ true → is_good head (statement.Insert table0 row) ≡ true
-insert-good head row fits = go (slice_get head.tables 0) refl fits
-  where
-    go : (o : Option TableDef) → slice_get head.tables 0 ≡ o → option_map_or (λ d. all_fit d.columns row) o false ≡ true
-        → (is_table head table0 && are_stored (columns_of head table0) row) ≡ true
-    go (Some d) is q = rw (there head d is, is, stored d.columns row q) refl
-    go None is q = absurd (false_true q)
-
-insert-built : (head : Head) (line : List ℕ) (t : Token) (vs : List Token) (st : Statement) → Some st ≡ inserted head line t vs → is_good head st ≡ true
-unfolding inserted
-insert-built head line t vs st p = go (knows_table head line t) (all_some (map (value_of line) vs)) p
-  where
-    fit : (row : List Value) (b : Bool) → row_fits head table0 row ≡ b → Some st ≡ cond b (Some (statement.Insert table0 row)) None → is_good head st ≡ true
-    fit row true is q = ap (is_good head) (some_is st (statement.Insert table0 row) q) ∙ insert-good head row is
-    fit row false is q = absurd (none_is st q)
-
-    go : (b : Bool) (o : Option (List Value)) → Some st ≡ cond b (inserting head o) None → is_good head st ≡ true
-    go true (Some row) q = fit row (row_fits head table0 row) refl q
-    go true None q = absurd (none_is st q)
-    go false o q = absurd (none_is st q)
 
 found_passes : (p : ℕ → Bool) (xs : List ℕ) (x : ℕ) → find p xs ≡ Some x → p x ≡ true
 found_passes p [] x e = absurd (none_is x (sym e))
@@ -147,172 +143,262 @@ found_passes p (y ∷ ys) x e = go (p y) refl e (λ q. found_passes p ys x q)
     go true is q later = ap p (sym (some_is y x q)) ∙ is
     go false is q later = later q
 
-column_within : (columns : List Column) (line : List ℕ) (c : Token) (at : ℕ) → is_column columns line c at ≡ true → nat_lt at (length columns) ≡ true
-column_within columns line c at e = go (slice_get columns at) refl e
+connection_within : (head : Head) (line : List ℕ) (a : Token) (at : ℕ) → is_connection head line a at ≡ true → at < length head.conns
+connection_within head line a at e = go (slice_get head.conns at) refl e
   where
-    go : (o : Option Column) → slice_get columns at ≡ o → option_map_or (λ d. gives line c d.name) o false ≡ true → nat_lt at (length columns) ≡ true
-    go (Some d) is q = lt-ltb at (length columns) (slice_get_within columns at d is)
+    go : (o : Option ConnDef) → slice_get head.conns at ≡ o → option_map_or (λ d. gives line a d.name) o false ≡ true → at < length head.conns
+    go (Some d) is q = slice_get_within head.conns at d is
     go None is q = absurd (false_true q)
 
-place_within : (o : Option TableDef) (line : List ℕ) (c : Token) (at : ℕ) → place_among o line c ≡ Some at → nat_lt at (option_map_or (λ d. length d.columns) o 0) ≡ true
-place_within None line c at e = absurd (none_is at (sym e))
-place_within (Some d) line c at e = column_within d.columns line c at (found_passes (is_column d.columns line c) places at e)
-
-typed-always : (cs : List Column) → is_typed cs Condition.Always ≡ true
-typed-always cs = ap (is_typed cs) (sym rolls-Always) ∙ fold-roll-Condition Bool (sound_at cs) Condition-F.Always
-
-none-compared : comparisons Condition.Always ≡ 0
-none-compared = ap comparisons (sym rolls-Always) ∙ fold-roll-Condition ℕ comparisons_at Condition-F.Always
-
-select-good : (head : Head) (at : ℕ) → nat_lt at (option_map_or (λ d. length d.columns) (slice_get head.tables 0) 0) ≡ true → is_good head (selecting at) ≡ true
-select-good head at within = go (slice_get head.tables 0) refl within
+-- a connection that a line uses without a fault is declared
+connection_there : (head : Head) (line : List ℕ) (a : Token) → connection_fault head line a ≡ None → (connection_of head line a).0 < length head.conns
+unfolding connection_place
+connection_there head line a e = go (connection_place head line a) refl (all_well (is_some (connection_place head line a)) a Unknown e)
   where
-    go : (o : Option TableDef) → slice_get head.tables 0 ≡ o → nat_lt at (option_map_or (λ d. length d.columns) o 0) ≡ true
-        → is_good head (selecting at) ≡ true
-    go (Some d) is q = rw (there head d is, is, q, typed-always d.columns, none-compared) refl
-    go None is q = absurd (let z : at < 0 = ltb-true at 0 q in omega (arith, z))
-
-select-built : (head : Head) (line : List ℕ) (c t : Token) (st : Statement) → Some st ≡ selected head line c t → is_good head st ≡ true
-unfolding selected place_of
-select-built head line c t st p = go (knows_table head line t) (place_among (slice_get head.tables 0) line c) refl p
-  where
-    go : (b : Bool) (o : Option ℕ) → place_among (slice_get head.tables 0) line c ≡ o → Some st ≡ cond b (option_map selecting o) None → is_good head st ≡ true
-    go true (Some at) is q = ap (is_good head) (some_is st (selecting at) q) ∙ select-good head at (place_within (slice_get head.tables 0) line c at is)
-    go true None is q = absurd (none_is st q)
-    go false o is q = absurd (none_is st q)
+    go : (o : Option ℕ) → connection_place head line a ≡ o → is_some o ≡ true → (option_map_or (λ at. at) (connection_place head line a) 0) < length head.conns
+    go (Some at) is q =
+        let same : option_map_or (λ at. at) (connection_place head line a) 0 ≡ at = ap (λ o. option_map_or (λ at. at) o 0) is in
+        let less : at < length head.conns = connection_within head line a at (found_passes (is_connection head line a) places at is) in
+        omega (arith, same, less)
+    go None is q = absurd (false_true q)
 
 -- ---- one line
 
 abbrev at_place : Reader → Place → Reader
 at_place s p = record s { place = p }
 
-moved : (s : Reader) (p q : Place) → Sound s → s.place ≡ p → is_before p ≡ true → tables_at p ≡ tables_at q → conns_at p ≡ conns_at q → (is_ended (at_place s q) ≡ true → ⊥) → Sound (at_place s q)
-moved s p q h is before t c open_ = record {
-  tables = h.tables ∙ ap tables_at is ∙ t;
-  conns = h.conns ∙ ap conns_at is ∙ c;
+moved : (s : Reader) (p q : Place) → Sound s → s.place ≡ p → is_before p ≡ true → (is_ended (at_place s q) ≡ true → ⊥) → Sound (at_place s q)
+moved s p q h is before open_ = record {
+  tables = h.tables;
+  conns = h.conns;
   rows = h.rows;
+  some_rows = h.some_rows;
   indexes = h.indexes;
   none = λ _. h.none (ap is_before is ∙ before);
   few = h.few;
   lines = h.lines;
+  manned = h.manned;
   closed = h.closed;
   ended = λ e. absurd (open_ e);
 }
 
-tabled : (s : Reader) (n : ℕ) (d : TableDef) → Sound s → s.place ≡ place.Table → Sound (advance s n (event.Table d))
-tabled s n d h is =
-    let empty : s.script.lines ≡ [] = h.none (ap is_before is) in
-    let count : length s.script.head.tables ≡ 0 = h.tables ∙ ap tables_at is in
+-- a head line leaves no line before it
+empty_here : (s : Reader) → Sound s → s.place ≡ place.Head → s.script.lines ≡ []
+empty_here s h is = h.none (ap is_before is)
+
+not_ended : (s : Reader) (p : Place) → s.place ≡ p → is_ended (at_place s p) ≡ false → is_ended s ≡ true → ⊥
+not_ended s p is open_ e = false_true (sym open_ ∙ ap (λ q. is_ended (at_place s q)) (sym is) ∙ e)
+
+headed : (s : Reader) (head : Head) → Sound s → s.place ≡ place.Head → length head.tables ≤ 16 → length head.conns ≤ 1 → list_all (is_fitting head) head.rows ≡ true → length head.rows ≤ 1000 → head.indexes ≡ [] → Sound (with_head s head)
+headed s head h is tables conns rows some_rows indexes =
+    let empty : s.script.lines ≡ [] = empty_here s h is in
     record {
-      tables = length-append s.script.head.tables (d ∷ []) ∙ ap (λ k. k + 1) count;
-      conns = h.conns ∙ ap conns_at is;
-      rows = h.rows;
-      indexes = h.indexes;
+      tables = tables;
+      conns = conns;
+      rows = rows;
+      some_rows = some_rows;
+      indexes = indexes;
       none = λ _. empty;
       few = h.few;
-      lines = ap (list_all (is_built_line (advance s n (event.Table d)).script.head)) empty;
+      lines = ap (list_all (is_built_line head)) empty;
+      manned = λ _. empty;
       closed = h.closed;
-      ended = λ e. absurd (false_true e);
+      ended = λ e. absurd (not_ended s place.Head is refl e);
     }
 
-linked : (s : Reader) (n : ℕ) (d : ConnDef) → Sound s → s.place ≡ place.Connect → Sound (advance s n (event.Connect d))
-linked s n d h is =
-    let empty : s.script.lines ≡ [] = h.none (ap is_before is) in
-    let count : length s.script.head.conns ≡ 0 = h.conns ∙ ap conns_at is in
+asked : (s : Reader) (n c : ℕ) (x : Statement) → Sound s → s.place ≡ place.Body → c < length s.script.head.conns → is_built_statement x ≡ true → is_sound_statement s.script.head x ≡ true → nat_lt (length s.script.lines) 1000 ≡ true
+    → Sound (advance s n (event.Asked (Some (record { 0 = c })) false (what.Statement x)))
+asked s n c x h is there built sound few =
+    let line : Line = record { number = n; conn = Some (record { 0 = c }); free = false; what = what.Statement x } in
     record {
-      tables = h.tables ∙ ap tables_at is;
-      conns = length-append s.script.head.conns (d ∷ []) ∙ ap (λ k. k + 1) count;
+      tables = h.tables;
+      conns = h.conns;
       rows = h.rows;
+      some_rows = h.some_rows;
       indexes = h.indexes;
-      none = λ _. empty;
-      few = h.few;
-      lines = ap (list_all (is_built_line (advance s n (event.Connect d)).script.head)) empty;
-      closed = h.closed;
-      ended = λ e. absurd (false_true e);
+      none = λ b. absurd (false_true (sym (ap is_before is) ∙ b));
+      few = let less : length s.script.lines < 1000 = ltb-true (length s.script.lines) 1000 few in omega (arith, length-append s.script.lines (line ∷ []), less);
+      lines = all_snoc (is_built_line s.script.head) s.script.lines line h.lines (ap (λ v. v && (is_built_statement x && is_sound_statement s.script.head x)) (first_one c h.conns there) ∙ ap (λ v. v && is_sound_statement s.script.head x) built ∙ sound);
+      manned = λ e. absurd (none_there c e there);
+      closed = open_snoc false s.script.lines line;
+      ended = λ e. absurd (not_ended s place.Body is refl e);
     }
+  where
+    first_one : (c : ℕ) → length s.script.head.conns ≤ 1 → c < length s.script.head.conns → (c == 0) ≡ true
+    first_one c le lt = let z : c ≡ 0 = omega arith in ap (λ v. v == 0) z
 
-told : (s : Reader) (n : ℕ) (st : Statement) → Sound s → s.place ≡ place.Body → is_good s.script.head st ≡ true → nat_lt (length s.script.lines) 1000 ≡ true → Sound (advance s n (event.Stated st))
-told s n st h is good few = record {
-  tables = h.tables;
-  conns = h.conns;
-  rows = h.rows;
-  indexes = h.indexes;
-  none = λ b. absurd (false_true (sym (ap is_before is) ∙ b));
-  few = let less : length s.script.lines < 1000 = ltb-true (length s.script.lines) 1000 few in omega (arith, length-append s.script.lines (line_of n st ∷ []), less);
-  lines = all_snoc (is_built_line s.script.head) s.script.lines (line_of n st) h.lines good;
-  closed = open_snoc false s.script.lines (line_of n st);
-  ended = λ e. absurd (false_true (sym (ap (λ p. is_ended (at_place s p)) is) ∙ e));
-}
+    none_there : (c : ℕ) → length s.script.head.conns ≡ 0 → c < length s.script.head.conns → ⊥
+    none_there c e lt = omega arith
 
 closed_here : (s : Reader) (n : ℕ) → Sound s → s.place ≡ place.Body → s.unfinished ≡ false → Sound (advance s n event.End)
 closed_here s n h is shut = record {
-  tables = h.tables ∙ ap tables_at is;
-  conns = h.conns ∙ ap conns_at is;
+  tables = h.tables;
+  conns = h.conns;
   rows = h.rows;
+  some_rows = h.some_rows;
   indexes = h.indexes;
   none = λ b. absurd (false_true b);
   few = h.few;
   lines = h.lines;
+  manned = h.manned;
   closed = h.closed;
   ended = λ _. shut;
 }
 
-of_ended : (b : Bool) (e : Event) → Some e ≡ ended b → (e ≡ event.End) × (b ≡ false)
-of_ended true e p = absurd (none_is e p)
-of_ended false e p = (some_is e event.End p, refl)
+-- an event without a fault, and what is found
+record IsPlain (e : Event) (c : Checked Event) : Type 0 where
+  value : e ≡ c.value
+  none : c.fault ≡ None
 
-begun : (s : Reader) (n : ℕ) → Sound s → s.place ≡ place.Begin → Sound (advance s n event.Begin)
-begun s n h is = record {
-  tables = h.tables ∙ ap tables_at is;
-  conns = h.conns ∙ ap conns_at is;
-  rows = h.rows;
-  indexes = h.indexes;
-  none = λ _. h.none (ap is_before is);
-  few = h.few;
-  lines = h.lines;
-  closed = h.closed;
-  ended = λ e. absurd (false_true e);
-}
+is_plain : (e : Event) (c : Checked Event) → checked e None ≡ c → IsPlain e c
+is_plain e c p = record { value = value_is (checked e None) c p; none = sym (fault_is (checked e None) c p) }
 
-of_declared : (line : List ℕ) (t : Token) (cs : List Token) (e : Event) → Some e ≡ declared line t cs → (d : TableDef) × (e ≡ event.Table d)
-unfolding declared
-of_declared line t cs e p = of_table (table_of (name_of line t) (all_some (map (column_of line) cs))) e p
-
-of_connected : (line : List ℕ) (a : Token) (e : Event) → Some e ≡ connected line a → (d : ConnDef) × (e ≡ event.Connect d)
-unfolding connected
-of_connected line a e p = go (name_of line a) p
+config-sound : (s : Reader) (n : ℕ) (line : List ℕ) (w : _) (e : Event) → Sound s → s.place ≡ place.Head → checked e None ≡ configured s.set line w → Sound (advance s n e)
+unfolding configured
+config-sound s n line w e h is p =
+    subst (λ (z : Event). Sound (advance s n z)) (sym (value_is (checked e None) (configured s.set line w) p)) (set_up s n _ h is)
   where
-    go : (o : Option (List ℕ)) → Some e ≡ option_map (λ n. event.Connect (connection n)) o → (d : ConnDef) × (e ≡ event.Connect d)
-    go (Some n) q = (connection n, some_is e (event.Connect (connection n)) q)
-    go None q = absurd (none_is e q)
+    set_up : (s : Reader) (n : ℕ) (x : Setting) → Sound s → s.place ≡ place.Head → Sound (advance s n (event.Config x))
+    set_up s n x h is =
+        let r = headed s (record s.script.head { config = with_setting s.script.head.config x }) h is h.tables h.conns h.rows h.some_rows h.indexes in
+        record { tables = r.tables; conns = r.conns; rows = r.rows; some_rows = r.some_rows; indexes = r.indexes; none = r.none; few = r.few; lines = r.lines; manned = r.manned; closed = r.closed; ended = r.ended }
 
-step_sound : (p : Place) (s : Reader) (n : ℕ) (line : List ℕ) (ts : List Token) (e : Event) → Sound s → s.place ≡ p → rule p s line ts (Some e) → Sound (advance s n e)
-step_sound place.First s n line ts e h is w = subst (λ d. Sound (advance s n d)) (sym (some_is e event.First w.5.5.1)) (moved s place.First place.Table h is refl refl refl false_true)
-step_sound place.Table s n line ts e h is w =
-    let d = of_declared line w.5.0 w.5.5.5.0 e w.5.5.5.5.5.1 in
-    subst (λ d. Sound (advance s n d)) (sym d.1) (tabled s n d.0 h is)
-step_sound place.Connect s n line ts e h is w =
-    let d = of_connected line w.5.0 e w.5.5.1 in
-    subst (λ d. Sound (advance s n d)) (sym d.1) (linked s n d.0 h is)
-step_sound place.Begin s n line ts e h is w = subst (λ d. Sound (advance s n d)) (sym (some_is e event.Begin w.5.1)) (begun s n h is)
-step_sound place.Body s n line ts e h is w = elim w [
-  | inl v ↦
-      let d = of_stated s.script line v.0 v.5.5.0 e v.5.5.5.1 in
-      subst (λ d. Sound (advance s n d)) (sym d.1) (told s n d.0 h is (elim v.5.5.4 [
-        | inl i ↦ insert-built s.script.head line i.5.5.0 i.5.5.5.5.5.0 d.0 (d.2 ∙ i.5.5.5.5.5.5.5.1)
+table-sound : (s : Reader) (n : ℕ) (line : List ℕ) (t : Token) (cs : List ColumnWords) (e : Event) → Sound s → s.place ≡ place.Head → checked e None ≡ declared s.script.head line t cs → Sound (advance s n e)
+unfolding declared
+table-sound s n line t cs e h is p =
+    subst (λ (z : Event). Sound (advance s n z)) (sym (value_is (checked e None) (declared s.script.head line t cs) p))
+    (headed s _ h is (one_more _ (few (nat_lt 8 (length cs) || nat_le 16 (length s.script.head.tables)) refl (sym (fault_is (checked e None) (declared s.script.head line t cs) p)))) h.conns (rows-grow s.script.head _ s.script.head.rows h.rows) h.some_rows h.indexes)
+  where
+    own : Option Fault
+    own = least (declared_fault (has_table s.script.head line t) line t) (columns_fault line None [] cs)
+
+    over : (f : Fault) → Some f ≡ None → ⊥
+    over f e = cc
+
+    few : (b : Bool) → (nat_lt 8 (length cs) || nat_le 16 (length s.script.head.tables)) ≡ b → table_fault s.script.head line t cs ≡ None → length s.script.head.tables < 16
+    few true is q = absurd (over (record { place = 1; cause = Limit }) (sym (ap (λ v. cond v (whole_line Limit) own) is) ∙ q))
+    few false is q = leb-false 16 (length s.script.head.tables) (or_right (nat_lt 8 (length cs)) (nat_le 16 (length s.script.head.tables)) is)
+
+    one_more : (d : TableDef) → length s.script.head.tables < 16 → length (s.script.head.tables ++ d ∷ []) ≤ 16
+    one_more d lt = omega (arith, length-append s.script.head.tables (d ∷ []))
+
+-- a row that is stored without a fault fits its table
+row-fits : (head : Head) (line : List ℕ) (first t : Token) (vs : List Token) (close : Token) → row_fault head (table_names head line t) first t (table_of head line t) vs close ≡ None → row_fits head (table_of head line t) (stored_row line vs) ≡ true
+unfolding table_names table_of at
+row-fits head line first t vs close e = go (is_some (table_place head line t)) refl e
+  where
+    go : (b : Bool) → is_some (table_place head line t) ≡ b → cond b (values_fault head line first (table_of head line t) (columns_in head (table_place head line t)) vs close) (at t Unknown) ≡ None → row_fits head (table_in (table_place head line t)) (stored_row line vs) ≡ true
+    go true is q =
+        named-fits head line t (stored_row line vs) (table_place head line t) refl is
+        (stored-fits line (columns_in head (table_place head line t)) vs close (no_least_right (full_fault head (table_of head line t)) _ (no_least_right (unless (not (repeats_keys head (table_of head line t) (stored_row line vs))) first Duplicate) _ q)))
+    go false is q = absurd (none_is (record { place = t.start; cause = Unknown }) q)
+
+row-sound : (s : Reader) (n : ℕ) (line : List ℕ) (first t : Token) (vs : List Token) (close : Token) (e : Event) → Sound s → s.place ≡ place.Head → is_built s e ≡ true → checked e None ≡ rowed s.script.head line first t vs close → Sound (advance s n e)
+unfolding rowed
+row-sound s n line first t vs close e h is built p =
+    let v : e ≡ (rowed s.script.head line first t vs close).value = value_is (checked e None) (rowed s.script.head line first t vs close) p in
+    let few : nat_lt (length s.script.head.rows) 1000 ≡ true = ap (is_built s) (sym v) ∙ built in
+    subst (λ (z : Event). Sound (advance s n z)) (sym v)
+    (headed s _ h is h.tables h.conns (all_snoc (is_fitting s.script.head) s.script.head.rows _ h.rows (row-fits s.script.head line first t vs close (sym (fault_is (checked e None) (rowed s.script.head line first t vs close) p)))) (one_more _ (ltb-true (length s.script.head.rows) 1000 few)) h.indexes)
+  where
+    one_more : (f : FirstRow) → length s.script.head.rows < 1000 → length (s.script.head.rows ++ f ∷ []) ≤ 1000
+    one_more f lt = omega (arith, length-append s.script.head.rows (f ∷ []))
+
+connect-sound : (s : Reader) (n : ℕ) (line : List ℕ) (a : Token) (l : _) (e : Event) → Sound s → s.place ≡ place.Head → is_built s e ≡ true → checked e None ≡ connected s.script.head line a l → Sound (advance s n e)
+unfolding connected
+connect-sound s n line a l e h is built p =
+    let v : e ≡ (connected s.script.head line a l).value = value_is (checked e None) (connected s.script.head line a l) p in
+    subst (λ (z : Event). Sound (advance s n z)) (sym v) (headed s _ h is h.tables (one_more _ (and_left _ _ (ap (is_built s) (sym v) ∙ built))) h.rows h.some_rows h.indexes)
+  where
+    one_more : (d : ConnDef) → (length s.script.head.conns == 0) ≡ true → length (s.script.head.conns ++ d ∷ []) ≤ 1
+    one_more d e = let z : length s.script.head.conns ≡ 0 = eqb-true (length s.script.head.conns) 0 e in omega (arith, length-append s.script.head.conns (d ∷ []))
+
+statement-sound : (head : Head) (line : List ℕ) (ts : List Token) (x : Checked Statement) → gq.statement head line ts x → x.fault ≡ None → is_sound_statement head x.value ≡ true
+statement-sound head line ts x w none = ap (λ (c : Checked Statement). is_sound_statement head c.value) w.5.1
+
+statement_line-sound : (s : Reader) (n : ℕ) (line : List ℕ) (free : Bool) (a : Token) (ts : List Token) (x : Checked Statement) (e : Event) → Sound s → s.place ≡ place.Body → is_built s e ≡ true → gq.statement s.script.head line ts x
+    → checked e None ≡ stated s.script.head line free a x → Sound (advance s n e)
+unfolding stated
+statement_line-sound s n line free a ts x e h is built w p =
+    let v : e ≡ (stated s.script.head line free a x).value = value_is (checked e None) (stated s.script.head line free a x) p in
+    let none : least (connection_fault s.script.head line a) x.fault ≡ None = sym (fault_is (checked e None) (stated s.script.head line free a x) p) in
+    let b : (not free && (nat_lt (length s.script.lines) 1000 && is_built_statement x.value)) ≡ true = ap (is_built s) (sym v) ∙ built in
+    let more : (nat_lt (length s.script.lines) 1000 && is_built_statement x.value) ≡ true = and_right (not free) _ b in
+    subst (λ (z : Event). Sound (advance s n z)) (sym v) (subst (λ (f : Bool). Sound (advance s n (event.Asked (Some (connection_of s.script.head line a)) f (what.Statement x.value)))) (sym (is_false free (and_left (not free) _ b)))
+    (asked s n (connection_of s.script.head line a).0 x.value h is (connection_there s.script.head line a (no_least_left (connection_fault s.script.head line a) x.fault none)) (and_right (nat_lt (length s.script.lines) 1000) _ more)
+    (statement-sound s.script.head line ts x w (no_least_right (connection_fault s.script.head line a) x.fault none)) (and_left (nat_lt (length s.script.lines) 1000) _ more)))
+
+end-sound : (s : Reader) (n : ℕ) (e : Event) → Sound s → s.place ≡ place.Body → is_built s e ≡ true → checked e None ≡ plain event.End → Sound (advance s n e)
+end-sound s n e h is built p =
+    let v : e ≡ event.End = value_is (checked e None) (plain event.End) p in
+    subst (λ (z : Event). Sound (advance s n z)) (sym v) (closed_here s n h is (is_false s.unfinished (ap (is_built s) (sym v) ∙ built)))
+
+no_index : (s : Reader) (d : IndexDef) (n : ℕ) (e : Event) → e ≡ event.Index d → is_built s e ≡ true → Sound (advance s n e)
+no_index s d n e v built = absurd (false_true (ap (is_built s) (sym v) ∙ built))
+
+head-sound : (s : Reader) (n : ℕ) (line : List ℕ) (ts : List Token) (e : Event) → Sound s → s.place ≡ place.Head → is_built s e ≡ true → rule place.Head s line ts (checked e None) → Sound (advance s n e)
+unfolding indexed
+head-sound s n line ts e h is built w = elim w [
+  | inl v ↦ config-sound s n line v.5.0 e h is v.5.5.1
+  | inr o ↦ elim o [
+    | inl v ↦ table-sound s n line v.5.0 v.5.5.5.0 e h is v.5.5.5.5.5.1
+    | inr o ↦ elim o [
+      | inl v ↦ no_index s _ n e (value_is (checked e None) (indexed s.script.head line (index_words v.0 v.5.0 v.5.5.0 v.5.5.5.5.0 v.5.5.5.5.5.5.0)) v.5.5.5.5.5.5.5.5.1) built
+      | inr o ↦ elim o [
+        | inl v ↦ row-sound s n line v.0 v.5.0 v.5.5.5.0 v.5.5.5.5.0 e h is built v.5.5.5.5.5.1
         | inr o ↦ elim o [
-          | inl i ↦ select-built s.script.head line i.5.0 i.5.5.5.0 d.0 (d.2 ∙ i.5.5.5.5.5.5.1)
-          | inr i ↦ ap (is_good s.script.head) (some_is d.0 statement.Commit (d.2 ∙ i.5.1))
+          | inl v ↦ connect-sound s n line v.5.0 v.5.5.0 e h is built v.5.5.5.1
+          | inr v ↦ subst (λ (z : Event). Sound (advance s n z)) (sym (value_is (checked e None) (plain event.Begin) v.5.1)) (moved s place.Head place.Body h is refl false_true)
         ]
-      ]) d.3)
-  | inr v ↦
-      let d = of_ended s.unfinished e v.5.1 in
-      subst (λ d. Sound (advance s n d)) (sym d.0) (closed_here s n h is d.1)
+      ]
+    ]
+  ]
 ]
-step_sound place.After s n line ts e h is w = absurd (none_is e w.1)
+
+not_free : (s : Reader) (c : _) (f : Bool) (w : What) (n : ℕ) (e : Event) → e ≡ event.Asked c f w → is_built s e ≡ true → is_built_asked w ≡ false → Sound (advance s n e)
+not_free s c f w n e v built other =
+    let b : (not f && (nat_lt (length s.script.lines) 1000 && is_built_asked w)) ≡ true = ap (is_built s) (sym v) ∙ built in
+    absurd (false_true (sym other ∙ and_right (nat_lt (length s.script.lines) 1000) _ (and_right (not f) _ b)))
+
+body-sound : (s : Reader) (n : ℕ) (line : List ℕ) (ts : List Token) (e : Event) → Sound s → s.place ≡ place.Body → is_built s e ≡ true → rule place.Body s line ts (checked e None) → Sound (advance s n e)
+unfolding expired pictured
+body-sound s n line ts e h is built w = elim w [
+  | inl v ↦ statement_line-sound s n line v.0 v.5.0 v.5.5.5.1 v.5.5.5.0 e h is built v.5.5.5.4 v.5.5.5.5.5.1
+  | inr o ↦ elim o [
+    | inl v ↦ not_free s _ false what.Expire n e (value_is (checked e None) (expired s.script.head line v.5.0) v.5.5.1) built refl
+    | inr o ↦ elim o [
+      | inl v ↦ not_free s None false what.Snapshot n e (value_is (checked e None) (pictured s.script.lines) v.5.1) built refl
+      | inr v ↦ end-sound s n e h is built v.5.1
+    ]
+  ]
+]
+
+step_sound : (p : Place) (s : Reader) (n : ℕ) (line : List ℕ) (ts : List Token) (e : Event) → Sound s → s.place ≡ p → is_built s e ≡ true → rule p s line ts (checked e None) → Sound (advance s n e)
+step_sound place.First s n line ts e h is built w =
+    subst (λ (z : Event). Sound (advance s n z)) (sym (value_is (checked e None) (plain event.First) w.5.5.1)) (moved s place.First place.Head h is refl false_true)
+step_sound place.Head s n line ts e h is built w = head-sound s n line ts e h is built w
+step_sound place.Body s n line ts e h is built w = body-sound s n line ts e h is built w
+step_sound place.After s n line ts e h is built w =
+    let v : e ≡ event.End = value_is (checked e None) (plain event.End) w.1 in
+    subst (λ (z : Event). Sound (advance s n z)) (sym v) (still s n h (is_false s.unfinished (ap (is_built s) (sym v) ∙ built)))
+  where
+    still : (s : Reader) (n : ℕ) → Sound s → s.unfinished ≡ false → Sound (advance s n event.End)
+    still s n h shut = record {
+      tables = h.tables;
+      conns = h.conns;
+      rows = h.rows;
+      some_rows = h.some_rows;
+      indexes = h.indexes;
+      none = λ b. absurd (false_true b);
+      few = h.few;
+      lines = h.lines;
+      manned = h.manned;
+      closed = h.closed;
+      ended = λ _. shut;
+    }
 
 start-sound : Sound start
-start-sound = record { tables = refl; conns = refl; rows = refl; indexes = refl; none = λ _. refl; few = omega arith; lines = refl; closed = refl; ended = λ _. refl }
+start-sound = record { tables = omega arith; conns = omega arith; rows = refl; some_rows = omega arith; indexes = refl; none = λ _. refl; few = omega arith; lines = refl; manned = λ _. refl; closed = refl; ended = λ _. refl }
 
 lines_sound : (texts : List (List ℕ)) (s : Reader) (n : ℕ) (end : Reader) → Sound s → ReadsFrom s n texts end → Sound end × (is_ended end ≡ true)
 lines_sound [] s n end h r = (subst Sound (sym r.1) h, ap is_ended r.1 ∙ r.0)
@@ -321,30 +407,20 @@ lines_sound (line ∷ texts) s n end h r = go (is_skipped line) r (λ t h r. lin
     go : (v : Bool) → MatchBool v (ReadsFrom s (n + 1) texts end) ((e : Event) × fits s line e × ReadsFrom (advance s n e) (n + 1) texts end)
         → ((t : Reader) → Sound t → ReadsFrom t (n + 1) texts end → Sound end × (is_ended end ≡ true)) → Sound end × (is_ended end ≡ true)
     go true r later = later s h r
-    go false r later = later (advance s n r.0) (step_sound s.place s n line (tokens line) r.0 h refl r.1) r.2
-
-counted : (s : Reader) (p : Place) → is_ended (at_place s p) ≡ true → (tables_at p ≡ 1) × (conns_at p ≡ 1)
-counted s place.First e = absurd (false_true e)
-counted s place.Table e = absurd (false_true e)
-counted s place.Connect e = absurd (false_true e)
-counted s place.Begin e = absurd (false_true e)
-counted s place.Body e = absurd (false_true e)
-counted s place.After e = (refl, refl)
+    go false r later = later (advance s n r.0) (step_sound s.place s n line (tokens line) r.0 h refl r.1.1 r.1.0) r.2
 
 built_of : (end : Reader) → Sound end → is_ended end ≡ true → IsBuilt end.script
-built_of end h e =
-    let counts = counted end end.place e in
-    record {
-      tables = omega (arith, h.tables, counts.0);
-      conns = omega (arith, h.conns, counts.1);
-      rows = rw h.rows refl;
-      some_rows = rw h.rows (omega arith);
-      manned = λ z. absurd (omega (arith, h.conns, counts.1, z));
-      indexes = h.indexes;
-      few = h.few;
-      lines = h.lines;
-      closed = h.closed ∙ h.ended e;
-    }
+built_of end h e = record {
+  tables = h.tables;
+  conns = h.conns;
+  rows = h.rows;
+  indexes = h.indexes;
+  some_rows = h.some_rows;
+  few = h.few;
+  lines = h.lines;
+  manned = h.manned;
+  closed = h.closed ∙ h.ended e;
+}
 
 -- what is read is built
 pub reads-built : (bytes : List ℕ) (s : Script) → reads bytes s → IsBuilt s

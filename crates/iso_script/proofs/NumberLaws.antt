@@ -9,10 +9,10 @@ use Rattle.iso_grammar.specs.Lines as text
 use Rattle.iso_script.specs.Numbered.{rises_above}
 use Rattle.iso_script.specs.declared.script.Line.{Line}
 use Rattle.iso_script.specs.declared.script.Script.{Script}
-use Rattle.iso_script.specs.declared.reader.Event.{Event}
-use Rattle.iso_script.specs.declared.reader.Event.TheVariants as event
+use Rattle.iso_script.specs.declared.event.Event.{Event}
+use Rattle.iso_script.specs.declared.event.Event.TheVariants as event
 use Rattle.iso_script.specs.declared.reader.Reader.{Reader}
-use Rattle.iso_script.specs.Rules.{advance, line_of}
+use Rattle.iso_script.specs.Advance.{advance}
 use Rattle.iso_script.specs.Reading.{fits, ReadsFrom, reads, start}
 
 both : (a b : Bool) → (a && b) ≡ true → (a ≡ true) × (b ≡ true)
@@ -48,14 +48,19 @@ next s n h = record { above = omega arith; rises = h.rises; below = still-below 
 
 step_rising : (s : Reader) (n : ℕ) (e : Event) → Rising s n → Rising (advance s n e) (n + 1)
 step_rising s n event.First h = record { above = omega arith; rises = h.rises; below = still-below n s.script.lines h.below }
+step_rising s n (event.Config x) h = record { above = omega arith; rises = h.rises; below = still-below n s.script.lines h.below }
 step_rising s n (event.Table d) h = record { above = omega arith; rises = h.rises; below = still-below n s.script.lines h.below }
+step_rising s n (event.Index d) h = record { above = omega arith; rises = h.rises; below = still-below n s.script.lines h.below }
+step_rising s n (event.Row f) h = record { above = omega arith; rises = h.rises; below = still-below n s.script.lines h.below }
 step_rising s n (event.Connect d) h = record { above = omega arith; rises = h.rises; below = still-below n s.script.lines h.below }
 step_rising s n event.Begin h = record { above = omega arith; rises = h.rises; below = still-below n s.script.lines h.below }
-step_rising s n (event.Stated x) h = record {
-  above = omega arith;
-  rises = rises-snoc 0 s.script.lines (line_of n x) (lt-ltb 0 n h.above) h.below h.rises;
-  below = list_all-append (λ l. nat_lt l.number (n + 1)) s.script.lines (line_of n x ∷ []) ∙ ap (λ v. v && (nat_lt n (n + 1) && true)) (still-below n s.script.lines h.below) ∙ ap (λ v. v && true) (lt-ltb n (n + 1) (omega arith));
-}
+step_rising s n (event.Asked c free w) h =
+    let line : Line = record { number = n; conn = c; free = free; what = w } in
+    record {
+      above = omega arith;
+      rises = rises-snoc 0 s.script.lines line (lt-ltb 0 n h.above) h.below h.rises;
+      below = list_all-append (λ l. nat_lt l.number (n + 1)) s.script.lines (line ∷ []) ∙ ap (λ v. v && (nat_lt n (n + 1) && true)) (still-below n s.script.lines h.below) ∙ ap (λ v. v && true) (lt-ltb n (n + 1) (omega arith));
+    }
 step_rising s n event.End h = record { above = omega arith; rises = h.rises; below = still-below n s.script.lines h.below }
 
 lines_rise : (texts : List (List ℕ)) (s : Reader) (n : ℕ) (end : Reader) → Rising s n → ReadsFrom s n texts end → rises_above 0 end.script.lines ≡ true

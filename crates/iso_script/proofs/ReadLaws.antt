@@ -1,46 +1,150 @@
 -- Lines one after the other.
-use Rattle.std.proofs.Common.{◌≡◌, ℕ, ◌+◌, Bool, true, false, List, [], ◌∷◌, Option, Some, None, Ok, Err, refl, sym, subst, ◌∙◌, ◌⊎◌, inl, inr}
+use Rattle.std.proofs.Common.{◌≡◌, ℕ, ◌+◌, Bool, true, false, cond, List, [], ◌∷◌, length, Option, Some, None, Result, Ok, Err, refl, sym, subst, ap, ◌∙◌, ◌⊎◌, inl, inr}
 use Rattle.std.specs.Prelude.{MatchBool}
+use Rattle.iso_grammar.specs.declared.fault.Checked.{Checked}
+use Rattle.iso_grammar.specs.declared.fault.Fault.{Fault}
 use Rattle.iso_grammar.specs.declared.token.Token.{Token}
+use Rattle.iso_grammar.specs.Faults.{checked, place_of}
+use Rattle.iso_grammar.specs.Grammar.{StopsAt}
 use Rattle.iso_grammar.specs.Lex.{tokens, is_skipped}
 use Rattle.iso_grammar.specs.Lines as text
 use Rattle.iso_grammar.proofs.ScriptLaws.{IsExact}
-use Rattle.iso_script.specs.declared.reader.Event.{Event}
+use Rattle.iso_script.specs.declared.event.Event.{Event}
 use Rattle.iso_script.specs.declared.reader.Reader.{Reader}
 use Rattle.iso_script.specs.declared.fault.LineCause.{LineCause}
 use Rattle.iso_script.specs.declared.fault.LineCause.TheVariants as cause
 use Rattle.iso_script.specs.declared.fault.ScriptFault.{ScriptFault}
 use Rattle.iso_script.specs.declared.fault.ScriptFault.TheVariants as fault
-use Rattle.iso_script.specs.Rules.{rule, advance}
-use Rattle.iso_script.specs.Reading.{fits, wrong, ReadsFrom, BadFrom, Refuses, start}
-use Rattle.iso_script.specs.Steps.{LineAnswers}
-use Rattle.iso_script.proofs.RuleLaws.{rule_meaning, rule_way, rule_apart}
+use Rattle.iso_script.specs.Advance.{advance}
+use Rattle.iso_script.specs.Rules.{rule}
+use Rattle.iso_script.specs.Reading.{cause_of, fits, wrong, IsMisspelt, IsFaulty, IsUnbuilt, ReadsFrom, BadFrom, Refuses, start}
+use Rattle.iso_script.specs.Steps.{verdict, LineAnswers}
+use Rattle.iso_script.specs.Unbuilt.{is_built}
+use Rattle.iso_script.proofs.RuleLaws.{rule_meaning, rule_way, rule_apart, rule_place}
 
-no_some : (e : Event) → None ≡ Some e → ⊥
-no_some e p = cc
+-- what a line comes to is so
+pub Judges : Reader → List ℕ → Result Event LineCause → Type 0
+Judges s line (Ok e) = fits s line e
+Judges s line (Err why) = wrong s line why
 
-some_event : (d e : Event) → Some d ≡ Some e → d ≡ e
-some_event d e p = cc
+abbrev Says : Reader → List ℕ → Checked Event → Type 0
+Says s line c = rule s.place s line (tokens line) c
 
--- a line that says nothing good fits no event
-pub none_fits : (s : Reader) (line : List ℕ) (ts : List Token) (x : Option Event) → ts ≡ tokens line → x ≡ None → rule s.place s line ts x → (e : Event) → fits s line e → ⊥
-none_fits s line ts x same is l e f =
-    no_some e (rule_meaning s.place s line (tokens line) None (Some e) (subst (λ (z : Option Event). rule s.place s line (tokens line) z) is (subst (λ (z : List Token). rule s.place s line z x) same l)) f)
+judges_built : (s : Reader) (line : List ℕ) (e : Event) (b : Bool) → is_built s e ≡ b → Says s line (checked e None) → Judges s line (cond b (Ok e) (Err cause.Unbuilt))
+unfolding Judges
+judges_built s line e true is l = (l, is)
+judges_built s line e false is l = inr (inr (e, l, is, refl))
+
+judges_fault : (s : Reader) (line : List ℕ) (e : Event) (o : Option Fault) → Says s line (checked e o) → Judges s line (verdict s (checked e o))
+unfolding Judges
+judges_fault s line e (Some f) l = inr (inl (e, f, l, refl))
+judges_fault s line e None l = judges_built s line e (is_built s e) refl l
+
+judges : (s : Reader) (line : List ℕ) (c : Checked Event) → Says s line c → Judges s line (verdict s c)
+judges s line c l = judges_fault s line c.value c.fault l
+
+pub judged : (s : Reader) (line : List ℕ) (ts : List Token) (c : Checked Event) (r : Result Event LineCause) → ts ≡ tokens line → r ≡ verdict s c → rule s.place s line ts c → Judges s line r
+judged s line ts c r same is l = subst (λ (z : Result Event LineCause). Judges s line z) (sym is) (judges s line c (subst (λ (z : List Token). rule s.place s line z c) same l))
+
+same_ok : (d e : Event) (r : Result Event LineCause) → r ≡ Ok d → r ≡ Ok e → d ≡ e
+same_ok d e r p q = cc
+
+same_err : (v w : LineCause) (r : Result Event LineCause) → r ≡ Err v → r ≡ Err w → v ≡ w
+same_err v w r p q = cc
+
+pub is_event : (s : Reader) (line : List ℕ) (e : Event) (r : Result Event LineCause) → r ≡ Ok e → Judges s line r → fits s line e
+unfolding Judges
+is_event s line e (Ok d) same j = subst (λ (z : Event). fits s line z) (same_ok d e (Ok d) refl same) j
+is_event s line e (Err why) same j = absurd cc
+
+pub is_wrong : (s : Reader) (line : List ℕ) (why : LineCause) (r : Result Event LineCause) → r ≡ Err why → Judges s line r → wrong s line why
+unfolding Judges
+is_wrong s line why (Ok d) same j = absurd cc
+is_wrong s line why (Err v) same j = subst (λ (z : LineCause). wrong s line z) (same_err v why (Err v) refl same) j
+
+pub is_misspelt : (s : Reader) (line : List ℕ) (ts : List Token) (left place : ℕ) → ts ≡ tokens line → place ≡ place_of ts left (length line) → StopsAt (rule s.place s line) ts left → wrong s line (cause.Syntax place)
+is_misspelt s line ts left place same is stop =
+    inl (left, subst (λ (z : List Token). StopsAt (rule s.place s line) z left) same stop, ap cause.Syntax (is ∙ ap (λ (z : List Token). place_of z left (length line)) same))
+
+value_is : (c d : Checked Event) → c ≡ d → c.value ≡ d.value
+value_is c d e = ap (λ (z : Checked Event). z.value) e
+
+fault_is : (c d : Checked Event) → c ≡ d → c.fault ≡ d.fault
+fault_is c d e = ap (λ (z : Checked Event). z.fault) e
+
+no_some : (f : Fault) → None ≡ Some f → ⊥
+no_some f e = cc
+
+same_some : (f h : Fault) → Some f ≡ Some h → f ≡ h
+same_some f h e = cc
+
+no_both : (b : Bool) → b ≡ true → b ≡ false → ⊥
+no_both b p q = cc
+
+module _ (s : Reader) (line : List ℕ) where
+  same : (c d : Checked Event) → Says s line c → Says s line d → c ≡ d
+  same c d a b = rule_meaning s.place s line (tokens line) c d a b
+
+  way : ((e : Event) × fits s line e) ⊎ ((why : LineCause) × wrong s line why)
+  unfolding Judges
+  way = elim (rule_way s.place s line (tokens line)) [
+    | inl w ↦ known (verdict s w.0) (judges s line w.0 w.1)
+    | inr w ↦ inr (cause.Syntax (place_of (tokens line) w.0 (length line)), inl (w.0, w.1, refl))
+  ]
+    where
+      known : (r : Result Event LineCause) → Judges s line r → ((e : Event) × fits s line e) ⊎ ((why : LineCause) × wrong s line why)
+      known (Ok e) j = inl (e, j)
+      known (Err why) j = inr (why, j)
+
+  apart : (e : Event) (why : LineCause) → fits s line e → wrong s line why → ⊥
+  apart e why f w = elim w [
+    | inl m ↦ rule_apart s.place s line (tokens line) (checked e None) m.0 f.0 m.1
+    | inr o ↦ elim o [
+      | inl m ↦ no_some m.1 (fault_is (checked e None) (checked m.0 (Some m.1)) (same (checked e None) (checked m.0 (Some m.1)) f.0 m.2))
+      | inr u ↦ no_both (is_built s e) f.1 (ap (is_built s) (value_is (checked e None) (checked u.0 None) (same (checked e None) (checked u.0 None) f.0 u.1)) ∙ u.2)
+    ]
+  ]
+
+  misspelt_once : (a b : LineCause) → IsMisspelt s line a → wrong s line b → a ≡ b
+  misspelt_once a b m w = elim w [
+    | inl n ↦ m.2 ∙ ap (λ k. cause.Syntax (place_of (tokens line) k (length line))) (rule_place s.place s line (tokens line) m.0 n.0 m.1 n.1) ∙ sym n.2
+    | inr o ↦ elim o [
+      | inl n ↦ absurd (rule_apart s.place s line (tokens line) (checked n.0 (Some n.1)) m.0 n.2 m.1)
+      | inr u ↦ absurd (rule_apart s.place s line (tokens line) (checked u.0 None) m.0 u.1 m.1)
+    ]
+  ]
+
+  faulty_once : (a b : LineCause) → IsFaulty s line a → wrong s line b → a ≡ b
+  faulty_once a b m w = elim w [
+    | inl n ↦ sym (misspelt_once b a n (inr (inl m)))
+    | inr o ↦ elim o [
+      | inl n ↦ m.3 ∙ ap cause_of (same_some m.1 n.1 (fault_is (checked m.0 (Some m.1)) (checked n.0 (Some n.1)) (same (checked m.0 (Some m.1)) (checked n.0 (Some n.1)) m.2 n.2))) ∙ sym n.3
+      | inr u ↦ absurd (no_some m.1 (fault_is (checked u.0 None) (checked m.0 (Some m.1)) (same (checked u.0 None) (checked m.0 (Some m.1)) u.1 m.2)))
+    ]
+  ]
+
+  once : (a b : LineCause) → wrong s line a → wrong s line b → a ≡ b
+  once a b v w = elim v [
+    | inl m ↦ misspelt_once a b m w
+    | inr o ↦ elim o [
+      | inl m ↦ faulty_once a b m w
+      | inr u ↦ elim w [
+        | inl n ↦ sym (misspelt_once b a n (inr (inr u)))
+        | inr p ↦ elim p [
+          | inl n ↦ sym (faulty_once b a n (inr (inr u)))
+          | inr t ↦ u.3 ∙ sym t.3
+        ]
+      ]
+    ]
+  ]
 
 pub line-exact : (s : Reader) (line : List ℕ) → IsExact (fits s line) (wrong s line)
 line-exact s line = record {
-  way = elim (rule_way s.place s line (tokens line)) [
-    | inl w ↦ known w.0 w.1
-    | inr w ↦ inr (cause.Unbuilt, (refl, λ e f. rule_apart s.place s line (tokens line) (Some e) w.0 f w.1))
-  ];
-  event = λ d e a b. some_event d e (rule_meaning s.place s line (tokens line) (Some d) (Some e) a b);
-  fault = λ a b p q. p.0 ∙ sym q.0;
-  apart = λ e why f w. w.1 e f;
+  way = way s line;
+  event = λ d e a b. value_is (checked d None) (checked e None) (same s line (checked d None) (checked e None) a.0 b.0);
+  fault = once s line;
+  apart = apart s line;
 }
-  where
-    known : (x : Option Event) → rule s.place s line (tokens line) x → ((e : Event) × fits s line e) ⊎ ((why : LineCause) × wrong s line why)
-    known (Some e) l = inl (e, l)
-    known None l = inr (cause.Unbuilt, (refl, none_fits s line (tokens line) None refl refl l))
 
 -- a line is taken
 pub step_reads : (s t : Reader) (n : ℕ) (line : List ℕ) (rest : List (List ℕ)) (end : Reader) → LineAnswers s line n (Ok tt) t → ReadsFrom t (n + 1) rest end → ReadsFrom s n (line ∷ rest) end
@@ -50,13 +154,13 @@ step_reads s t n line rest end a r = go (is_skipped line) a
     go true a = subst (λ (z : Reader). ReadsFrom z (n + 1) rest end) a r
     go false a = (a.0, a.1, subst (λ (z : Reader). ReadsFrom z (n + 1) rest end) a.2 r)
 
-pub step_bad : (s t : Reader) (n : ℕ) (line : List ℕ) (rest : List (List ℕ)) (bad : ℕ) → LineAnswers s line n (Ok tt) t → BadFrom t (n + 1) rest bad cause.Unbuilt → BadFrom s n (line ∷ rest) bad cause.Unbuilt
-step_bad s t n line rest bad a r = go (is_skipped line) a
+pub step_bad : (s t : Reader) (n : ℕ) (line : List ℕ) (rest : List (List ℕ)) (bad : ℕ) (why : LineCause) → LineAnswers s line n (Ok tt) t → BadFrom t (n + 1) rest bad why → BadFrom s n (line ∷ rest) bad why
+step_bad s t n line rest bad why a r = go (is_skipped line) a
   where
     go : (v : Bool) → MatchBool v (t ≡ s) ((e : Event) × fits s line e × (t ≡ advance s n e))
-        → MatchBool v (BadFrom s (n + 1) rest bad cause.Unbuilt) (((bad ≡ n) × wrong s line cause.Unbuilt) ⊎ ((e : Event) × fits s line e × BadFrom (advance s n e) (n + 1) rest bad cause.Unbuilt))
-    go true a = subst (λ (z : Reader). BadFrom z (n + 1) rest bad cause.Unbuilt) a r
-    go false a = inr (a.0, a.1, subst (λ (z : Reader). BadFrom z (n + 1) rest bad cause.Unbuilt) a.2 r)
+        → MatchBool v (BadFrom s (n + 1) rest bad why) (((bad ≡ n) × wrong s line why) ⊎ ((e : Event) × fits s line e × BadFrom (advance s n e) (n + 1) rest bad why))
+    go true a = subst (λ (z : Reader). BadFrom z (n + 1) rest bad why) a r
+    go false a = inr (a.0, a.1, subst (λ (z : Reader). BadFrom z (n + 1) rest bad why) a.2 r)
 
 pick : (v : Bool) (P Q : Type 0) → v ≡ false → Q → MatchBool v P Q
 pick true P Q e q = absurd cc
@@ -64,45 +168,6 @@ pick false P Q e q = q
 
 -- a line is refused
 pub refuse_here : (s t : Reader) (n : ℕ) (line : List ℕ) (rest : List (List ℕ)) (bytes : List ℕ) (e : ScriptFault) → LineAnswers s line n (Err e) t
-    → ((m : ℕ) → BadFrom s n (line ∷ rest) m cause.Unbuilt → BadFrom start 1 (text.lines bytes) m cause.Unbuilt) → Refuses bytes e
+    → ((m : ℕ) (why : LineCause) → BadFrom s n (line ∷ rest) m why → BadFrom start 1 (text.lines bytes) m why) → Refuses bytes e
 refuse_here s t n line rest bytes fault.Memory a so_far = tt
-refuse_here s t n line rest bytes (fault.BadLine m why) a so_far = go why a.2
-  where
-    go : (why : LineCause) → wrong s line why → Refuses bytes (fault.BadLine m why)
-    go cause.Unbuilt w = so_far m (pick (is_skipped line) (BadFrom s (n + 1) rest m cause.Unbuilt) _ a.0 (inl (a.1, w)))
-    go (cause.Syntax p) w = absurd (no w.0)
-      where
-        no : cause.Syntax p ≡ cause.Unbuilt → ⊥
-        no e = cc
-    go (cause.Unknown p) w = absurd (no w.0)
-      where
-        no : cause.Unknown p ≡ cause.Unbuilt → ⊥
-        no e = cc
-    go (cause.TypeFault p) w = absurd (no w.0)
-      where
-        no : cause.TypeFault p ≡ cause.Unbuilt → ⊥
-        no e = cc
-    go (cause.Duplicate p) w = absurd (no w.0)
-      where
-        no : cause.Duplicate p ≡ cause.Unbuilt → ⊥
-        no e = cc
-    go (cause.Limit p) w = absurd (no w.0)
-      where
-        no : cause.Limit p ≡ cause.Unbuilt → ⊥
-        no e = cc
-
--- each fault of a script of this stage is the same
-pub only_unbuilt : (texts : List (List ℕ)) (s : Reader) (n bad : ℕ) (why : LineCause) → BadFrom s n texts bad why → BadFrom s n texts bad cause.Unbuilt
-only_unbuilt texts s n bad why b = subst (λ (w : LineCause). BadFrom s n texts bad w) (is texts s n b) b
-  where
-    is : (texts : List (List ℕ)) (s : Reader) (n : ℕ) → BadFrom s n texts bad why → why ≡ cause.Unbuilt
-    is [] s n b = b.2
-    is (line ∷ texts) s n b = go (is_skipped line) b (λ t b. is texts t (n + 1) b)
-      where
-        go : (v : Bool) → MatchBool v (BadFrom s (n + 1) texts bad why) (((bad ≡ n) × wrong s line why) ⊎ ((e : Event) × fits s line e × BadFrom (advance s n e) (n + 1) texts bad why))
-            → ((t : Reader) → BadFrom t (n + 1) texts bad why → why ≡ cause.Unbuilt) → why ≡ cause.Unbuilt
-        go true b later = later s b
-        go false b later = elim b [
-          | inl w ↦ w.1.0
-          | inr x ↦ later (advance s n x.0) x.2
-        ]
+refuse_here s t n line rest bytes (fault.BadLine m why) a so_far = so_far m why (pick (is_skipped line) (BadFrom s (n + 1) rest m why) _ a.0 (inl (a.1, a.2)))

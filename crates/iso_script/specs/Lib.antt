@@ -1,6 +1,13 @@
 pub mod Built
 pub mod Numbered
+pub mod Naming
+pub mod Events
+pub mod Keyed
+pub mod Statements
 pub mod Rules
+pub mod Advance
+pub mod Unbuilt
+pub mod Sound
 pub mod Reading
 pub mod RuleReading
 pub mod Steps

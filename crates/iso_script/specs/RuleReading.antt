@@ -1,117 +1,193 @@
 -- Reading the lines of a script, as the code does.
-use Rattle.std.specs.Prelude.{ℕ, Bool, List, [], ◌∷◌, Option, Some, None}
+use Rattle.std.specs.Prelude.{ℕ, Bool, true, false, List, [], ◌∷◌, Option, None}
 use Rattle.iso_types.specs.declared.head.Head.{Head}
+use Rattle.iso_types.specs.declared.head.Isolation.{Isolation}
+use Rattle.iso_types.specs.declared.head.Isolation.TheVariants as level
 use Rattle.iso_sql.specs.declared.statement.Statement.{Statement}
-use Rattle.iso_sql.specs.declared.statement.Statement.TheVariants as statement
+use Rattle.iso_sql.specs.declared.statement.Statement.TheVariants as st
+use Rattle.iso_grammar.specs.declared.fault.Checked.{Checked}
+use Rattle.iso_grammar.specs.declared.token.Kind.{Kind}
 use Rattle.iso_grammar.specs.declared.token.Kind.TheVariants as k
 use Rattle.iso_grammar.specs.declared.token.Token.{Token}
-use Rattle.iso_grammar.specs.Reading.{Parser, pure, ◌>>=◌, ◌>>◌, either, expect, many}
-use Rattle.iso_script.specs.declared.script.Script.{Script}
-use Rattle.iso_script.specs.declared.reader.Event.{Event}
-use Rattle.iso_script.specs.declared.reader.Event.TheVariants as event
+use Rattle.iso_grammar.specs.Faults.{checked}
+use Rattle.iso_grammar.specs.Reading.{Parser, pure, ◌>>=◌, ◌>>◌, either, expect, many, optional}
+use Rattle.iso_script.specs.declared.event.Event.{Event}
+use Rattle.iso_script.specs.declared.event.Event.TheVariants as event
 use Rattle.iso_script.specs.declared.reader.Place.{Place}
 use Rattle.iso_script.specs.declared.reader.Place.TheVariants as place
 use Rattle.iso_script.specs.declared.reader.Reader.{Reader}
-use Rattle.iso_script.specs.declared.rules.ListItem.{ListItem}
-use Rattle.iso_script.specs.declared.rules.ListItem.TheVariants as item
-use Rattle.iso_script.specs.Rules.{declared, connected, inserted, selected, stated, ended}
+use Rattle.iso_script.specs.declared.words.ColumnWords.{ColumnWords}
+use Rattle.iso_script.specs.declared.words.SettingName.{SettingName}
+use Rattle.iso_script.specs.declared.words.SettingName.TheVariants as name
+use Rattle.iso_script.specs.declared.words.SettingWords.{SettingWords}
+use Rattle.iso_script.specs.declared.words.TypeWords.{TypeWords}
+use Rattle.iso_script.specs.declared.words.TypeWords.TheVariants as ty
+use Rattle.iso_script.specs.Keyed.{index_words, rowed, indexed}
+use Rattle.iso_script.specs.Events.{configured, declared, connected, stated, expired, pictured, plain}
 
-unfoldable pub column : Parser Token
-column = do
-  c ← expect k.Name
-  expect k.IntegerWord
-  pure c
+unfoldable pub flag : Kind → Parser Bool
+flag kind = either (kind ∷ []) (expect kind >> pure true) (pure false)
 
-unfoldable pub constant : Parser Token
-constant = either (k.Integer ∷ []) (expect k.Integer) (either (k.One ∷ []) (expect k.One) (expect k.Null))
+unfoldable pub number : Parser Token
+number = either (k.Integer ∷ []) (expect k.Integer) (expect k.One)
 
-abbrev pub item_of : ListItem → Parser Token
-item_of item.Column = column
-item_of item.Value = constant
-
-abbrev pub next_item : ListItem → Parser Token
-next_item i = expect k.Comma >> item_of i
-
-unfoldable pub separated : ListItem → ℕ → Parser (List Token)
-separated i n = do
-  first ← item_of i
-  more ← many (k.Comma ∷ []) (next_item i) n
-  pure (first ∷ more)
-
-unfoldable pub first_line : Parser (Option Event)
+unfoldable pub first_line : Parser (Checked Event)
 first_line = do
   expect k.Db2iso
   expect k.One
-  pure (Some event.First)
+  pure (plain event.First)
 
-unfoldable pub table_line : List ℕ → ℕ → Parser (Option Event)
-table_line line n = do
+unfoldable pub switch : Parser Token
+switch = either (k.On ∷ []) (expect k.On) (expect k.Disabled)
+
+unfoldable pub switched : Parser SettingWords
+switched = do
+  word ← expect k.CurCommit
+  value ← switch
+  pure (record { name = name.CurCommit; word = word; value = value })
+
+unfoldable pub numbered : Kind → SettingName → Parser SettingWords
+numbered kind n = do
+  word ← expect kind
+  value ← number
+  pure (record { name = n; word = word; value = value })
+
+unfoldable pub setting_words : Parser SettingWords
+setting_words =
+    either (k.CurCommit ∷ []) switched
+    (either (k.Locklist ∷ []) (numbered k.Locklist name.Locklist)
+    (either (k.Maxlocks ∷ []) (numbered k.Maxlocks name.Maxlocks)
+    (either (k.Logmax ∷ []) (numbered k.Logmax name.Logmax) (numbered k.Window name.Window))))
+
+unfoldable pub config_line : Reader → List ℕ → Parser (Checked Event)
+config_line s line = do
+  expect k.Config
+  w ← setting_words
+  pure (configured s.set line w)
+
+unfoldable pub varchar : Parser TypeWords
+varchar = do
+  expect k.Varchar
+  expect k.Open
+  n ← number
+  expect k.Close
+  pure (ty.Varchar n)
+
+unfoldable pub type_words : Parser TypeWords
+type_words = either (k.IntegerWord ∷ []) (expect k.IntegerWord >> pure ty.Integer) (either (k.Bigint ∷ []) (expect k.Bigint >> pure ty.Bigint) varchar)
+
+unfoldable pub not_null : Parser Bool
+not_null = either (k.Not ∷ []) (expect k.Not >> (expect k.Null >> pure true)) (pure false)
+
+unfoldable pub column : Parser ColumnWords
+column = do
+  c ← expect k.Name
+  kind ← type_words
+  required ← not_null
+  pure (record { name = c; kind = kind; required = required })
+
+abbrev pub next_column : Parser ColumnWords
+next_column = expect k.Comma >> column
+
+unfoldable pub columns : ℕ → Parser (List ColumnWords)
+columns n = do
+  first ← column
+  more ← many (k.Comma ∷ []) next_column n
+  pure (first ∷ more)
+
+unfoldable pub table_line : Reader → List ℕ → ℕ → Parser (Checked Event)
+table_line s line n = do
   expect k.Table
   t ← expect k.Name
   expect k.Open
-  cs ← separated item.Column n
+  cs ← columns n
   expect k.Close
-  pure (declared line t cs)
+  pure (declared s.script.head line t cs)
 
-unfoldable pub connect_line : List ℕ → Parser (Option Event)
-connect_line line = do
+unfoldable pub literal : Parser Token
+literal = either (k.Integer ∷ []) (expect k.Integer) (either (k.One ∷ []) (expect k.One) (either (k.Text ∷ []) (expect k.Text) (expect k.Null)))
+
+abbrev pub next_literal : Parser Token
+next_literal = expect k.Comma >> literal
+
+unfoldable pub literals : ℕ → Parser (List Token)
+literals n = do
+  first ← literal
+  more ← many (k.Comma ∷ []) next_literal n
+  pure (first ∷ more)
+
+unfoldable pub row_line : Reader → List ℕ → ℕ → Parser (Checked Event)
+row_line s line n = do
+  first ← expect k.Row
+  t ← expect k.Name
+  expect k.Open
+  vs ← literals n
+  close ← expect k.Close
+  pure (rowed s.script.head line first t vs close)
+
+unfoldable pub index_on : Reader → List ℕ → Option Token → Parser (Checked Event)
+index_on s line unique = do
+  word ← expect k.Index
+  i ← expect k.Name
+  expect k.On
+  t ← expect k.Name
+  expect k.Open
+  c ← expect k.Name
+  expect k.Close
+  pure (indexed s.script.head line (index_words unique word i t c))
+
+unfoldable pub index_line : Reader → List ℕ → Parser (Checked Event)
+index_line s line = optional (k.Unique ∷ []) (expect k.Unique) >>= index_on s line
+
+unfoldable pub isolation : Parser Isolation
+isolation =
+    either (k.Ur ∷ []) (expect k.Ur >> pure level.Ur)
+    (either (k.Cs ∷ []) (expect k.Cs >> pure level.Cs) (either (k.Rs ∷ []) (expect k.Rs >> pure level.Rs) (either (k.Rr ∷ []) (expect k.Rr >> pure level.Rr) (pure level.Cs))))
+
+unfoldable pub connect_line : Reader → List ℕ → Parser (Checked Event)
+connect_line s line = do
   expect k.Connect
   a ← expect k.Name
-  pure (connected line a)
+  l ← isolation
+  pure (connected s.script.head line a l)
 
-unfoldable pub begin_line : Parser (Option Event)
-begin_line = do
-  expect k.Begin
-  pure (Some event.Begin)
+unfoldable pub begin_line : Parser (Checked Event)
+begin_line = expect k.Begin >> pure (plain event.Begin)
 
-unfoldable pub insert : Head → List ℕ → ℕ → Parser (Option Statement)
-insert head line n = do
-  expect k.Insert
-  expect k.Into
-  t ← expect k.Name
-  expect k.Values
-  expect k.Open
-  vs ← separated item.Value n
-  expect k.Close
-  pure (inserted head line t vs)
+unfoldable pub statement : Head → List ℕ → ℕ → Parser (Checked Statement)
+statement head line n = expect k.Commit >> pure (checked st.Commit None)
 
-unfoldable pub select : Head → List ℕ → Parser (Option Statement)
-select head line = do
-  expect k.Select
-  c ← expect k.Name
-  expect k.From
-  t ← expect k.Name
-  expect k.With
-  expect k.Ur
-  pure (selected head line c t)
-
-unfoldable pub commit : Parser (Option Statement)
-commit = do
-  expect k.Commit
-  pure (Some statement.Commit)
-
-unfoldable pub any_statement : Head → List ℕ → ℕ → Parser (Option Statement)
-any_statement head line n = either (k.Insert ∷ []) (insert head line n) (either (k.Select ∷ []) (select head line) commit)
-
-unfoldable pub statement_line : Script → List ℕ → ℕ → Parser (Option Event)
-statement_line script line n = do
+unfoldable pub statement_line : Reader → List ℕ → ℕ → Parser (Checked Event)
+statement_line s line n = do
+  free ← flag k.Ampersand
   a ← expect k.Name
   expect k.Colon
-  x ← any_statement script.head line n
-  pure (stated script line a x)
+  x ← statement s.script.head line n
+  flag k.Semicolon
+  pure (stated s.script.head line free a x)
 
-unfoldable pub end_line : Bool → Parser (Option Event)
-end_line open_ = do
-  expect k.End
-  pure (ended open_)
+unfoldable pub expire_line : Reader → List ℕ → Parser (Checked Event)
+expire_line s line = do
+  expect k.Expire
+  a ← expect k.Name
+  pure (expired s.script.head line a)
 
-unfoldable pub body_line : Script → Bool → List ℕ → ℕ → Parser (Option Event)
-body_line script open_ line n = either (k.Name ∷ []) (statement_line script line n) (end_line open_)
+unfoldable pub snapshot_line : Reader → Parser (Checked Event)
+snapshot_line s = expect k.Snapshot >> pure (pictured s.script.lines)
 
-abbrev pub rule : Place → Reader → List ℕ → ℕ → Parser (Option Event)
+unfoldable pub end_line : Parser (Checked Event)
+end_line = expect k.End >> pure (plain event.End)
+
+unfoldable pub head_line : Reader → List ℕ → ℕ → Parser (Checked Event)
+head_line s line n = either (k.Config ∷ []) (config_line s line) (either (k.Table ∷ []) (table_line s line n) 
+    (either (k.Unique ∷ k.Index ∷ []) (index_line s line) (either (k.Row ∷ []) (row_line s line n) (either (k.Connect ∷ []) (connect_line s line) begin_line))))
+
+unfoldable pub body_line : Reader → List ℕ → ℕ → Parser (Checked Event)
+body_line s line n =
+    either (k.Ampersand ∷ k.Name ∷ []) (statement_line s line n) (either (k.Expire ∷ []) (expire_line s line) (either (k.Snapshot ∷ []) (snapshot_line s) end_line))
+
+abbrev pub rule : Place → Reader → List ℕ → ℕ → Parser (Checked Event)
 rule place.First s line n = first_line
-rule place.Table s line n = table_line line n
-rule place.Connect s line n = connect_line line
-rule place.Begin s line n = begin_line
-rule place.Body s line n = body_line s.script s.unfinished line n
-rule place.After s line n = pure None
+rule place.Head s line n = head_line s line n
+rule place.Body s line n = body_line s line n
+rule place.After s line n = pure (plain event.End)

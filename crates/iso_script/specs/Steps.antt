@@ -1,12 +1,20 @@
 -- What taking one line answers.
-use Rattle.std.specs.Prelude.{◌≡◌, ℕ, false, List, Result, Ok, Err, MatchBool}
+use Rattle.std.specs.Prelude.{◌≡◌, ℕ, false, if◌then◌else◌, List, Some, None, Result, Ok, Err, MatchBool}
+use Rattle.iso_grammar.specs.declared.fault.Checked.{Checked}
+use Rattle.iso_script.specs.declared.fault.LineCause.{LineCause}
+use Rattle.iso_script.specs.declared.fault.LineCause.TheVariants as cause
+use Rattle.iso_script.specs.Unbuilt.{is_built}
 use Rattle.iso_grammar.specs.Lex.{is_skipped}
-use Rattle.iso_script.specs.declared.reader.Event.{Event}
+use Rattle.iso_script.specs.declared.event.Event.{Event}
 use Rattle.iso_script.specs.declared.reader.Reader.{Reader}
 use Rattle.iso_script.specs.declared.fault.ScriptFault.{ScriptFault}
 use Rattle.iso_script.specs.declared.fault.ScriptFault.TheVariants as fault
-use Rattle.iso_script.specs.Rules.{advance}
-use Rattle.iso_script.specs.Reading.{fits, wrong}
+use Rattle.iso_script.specs.Advance.{advance}
+use Rattle.iso_script.specs.Reading.{cause_of, fits, wrong}
+
+-- what a line comes to that says this with this least fault
+abbrev pub verdict : Reader → Checked Event → Result Event LineCause
+verdict s c = elim c.fault [ Some f ↦ Err (cause_of f) | None ↦ (if is_built s c.value then Ok c.value else Err cause.Unbuilt) ]
 
 -- the line's event, or its fault
 abbrev pub EventAnswers : Reader → List ℕ → ℕ → Result Event ScriptFault → Type 0

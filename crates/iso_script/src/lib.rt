@@ -1,12 +1,17 @@
 //! Scripts: head lines, body lines, and what each line asks for.
 #![tactic(auto)]
 
+mod event;
+mod events;
 mod fault;
+mod keyed;
 mod naming;
 mod read;
 mod reader;
 mod rules;
 mod script;
+mod unbuilt;
+mod words;
 
 pub use fault::{LineCause, ScriptFault};
 pub use read::exactly_one;

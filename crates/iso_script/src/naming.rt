@@ -1,124 +1,92 @@
-//! What the names and values of a line mean.
+//! What the names and numbers of a line mean.
 
-ghost use Rattle.std.specs.Prelude.{◌≡◌, find, map, IfOk};
-ghost use Rattle.std.specs.List.{list_any};
-ghost use Rattle.iso_types.specs.Ids.{text_eq};
-ghost use Rattle.iso_types.specs.declared.value.Value.TheVariants as value;
-ghost use Rattle.iso_types.specs.Head as typing;
-ghost use Rattle.iso_script.specs.Rules as spec;
+ghost use Rattle.std.specs.Prelude.{◌≡◌, ◌≤◌, [], find, IfSome};
+ghost use Rattle.iso_script.specs.Naming as spec;
 
-use iso_grammar::{Kind, Token, integer, name, same, text_of};
-use iso_types::{Column, ColumnKind, Head, Items, Memory, Text, Value};
-use std::alloc::Global;
+use iso_grammar::{Cause, Fault, Token, integer, least, text_of, unless};
+use iso_sql::{gives, name_of};
+use iso_types::{Conn, Head, Text};
 
-pub fn name_of(line: &[u8], token: Token) -> Option<Text>
-    ensures { result ≡ spec.name_of line.now token }
+fn no_name() -> Text
+    ensures { result ≡ [] }
 {
-    name(text_of(line, token))
+    match Text::new(&[]) {
+        Some(text) => text,
+        None => unreachable!(),
+    }
 }
 
-#[tactic(auto, unfolding(crate::specs::Rules::gives))]
-fn gives(line: &[u8], token: Token, name: Text) -> bool
-    ensures { result ≡ spec.gives line.now token name }
+/// The name that a token declares; one that is too long says nothing.
+#[tactic(auto, unfolding(crate::specs::Naming::named))]
+pub fn named(line: &[u8], token: Token) -> Text
+    ensures { result ≡ spec.named line.now token }
 {
     match name_of(line, token) {
-        Some(given) => given == name,
-        None => false,
+        Some(name) => name,
+        None => no_name(),
     }
 }
 
-#[tactic(auto, unfolding(crate::specs::Rules::column_of))]
-fn column_of(line: &[u8], token: Token) -> Option<Column>
-    ensures { result ≡ spec.column_of line.now token }
+/// The fault of a name that is declared, where one is.
+#[tactic(auto, unfolding(crate::specs::Naming::declared_fault))]
+pub fn declared_fault(taken: bool, line: &[u8], token: Token) -> Option<Fault>
+    ensures { result ≡ spec.declared_fault taken line.now token }
 {
-    match name_of(line, token) {
-        Some(name) => Some(Column {
-            name,
-            kind: ColumnKind::Integer,
-            required: false,
-        }),
-        None => None,
-    }
+    least(
+        unless(name_of(line, token).is_some(), token, Cause::Limit),
+        unless(!taken, token, Cause::Duplicate),
+    )
 }
 
-pub fn columns_of(
-    alloc: Global,
-    line: &[u8],
-    mut names: &[Token],
-) -> Result<Option<Items<Column>>, Memory>
-    ensures { IfOk result (λ columns. columns ≡ spec.all_some (map (spec.column_of line.now) names.entry.now)) }
+#[tactic(auto, unfolding(crate::specs::Naming::has_table))]
+pub fn has_table(head: &Head, line: &[u8], token: Token) -> bool
+    ensures { result ≡ spec.has_table head.now line.now token }
 {
-    let mut columns = Items::new(alloc);
-    while let [token, rest @ ..] = names {
-        match column_of(line, *token) {
-            Some(column) => columns.push(column)?,
-            None => return Ok(None),
-        }
-        names = rest;
-    }
-    Ok(Some(columns))
+    head.tables
+        .as_slice()
+        .iter()
+        .any(|table| gives(line, token, table.name))
 }
 
-fn is_same_name(a: Text, b: Text) -> bool
-    ensures { result ≡ text_eq a b }
+#[tactic(auto, unfolding(crate::specs::Naming::has_index))]
+pub fn has_index(head: &Head, line: &[u8], token: Token) -> bool
+    ensures { result ≡ spec.has_index head.now line.now token }
 {
-    a == b
+    head.indexes
+        .as_slice()
+        .iter()
+        .any(|index| gives(line, token, index.name))
 }
 
-fn has_name(columns: &[Column], name: Text) -> bool
-    ensures { result ≡ list_any (λ d. text_eq name d.name) columns.now }
+#[tactic(auto, unfolding(crate::specs::Naming::has_connection))]
+pub fn has_connection(head: &Head, line: &[u8], token: Token) -> bool
+    ensures { result ≡ spec.has_connection head.now line.now token }
 {
-    columns.iter().any(|other| is_same_name(name, other.name))
+    head.conns
+        .as_slice()
+        .iter()
+        .any(|conn| gives(line, token, conn.name))
 }
 
-pub fn are_different(mut columns: &[Column]) -> bool
-    ensures { result ≡ spec.are_different columns.entry.now }
-{
-    while let [column, rest @ ..] = columns {
-        if has_name(rest, column.name) {
-            return false;
-        }
-        columns = rest;
-    }
-    true
-}
+const PLACES: [u8; 32] = [
+    0, 1, 2, 3, 4, 5, 6, 7, 8, 9, 10, 11, 12, 13, 14, 15, 16, 17, 18, 19, 20, 21, 22, 23, 24, 25,
+    26, 27, 28, 29, 30, 31,
+];
 
-#[tactic(auto, unfolding(crate::specs::Rules::knows_table))]
-pub fn knows_table(head: &Head, line: &[u8], token: Token) -> bool
-    ensures { result ≡ spec.knows_table head.now line.now token }
+fn is_connection(head: &Head, line: &[u8], token: Token, at: u8) -> bool
+    ensures { result ≡ spec.is_connection head.now line.now token at }
 {
-    match head.tables.get(0) {
-        Some(table) => gives(line, token, table.name),
-        None => false,
-    }
-}
-
-#[tactic(auto, unfolding(crate::specs::Rules::knows_connection))]
-pub fn knows_connection(head: &Head, line: &[u8], token: Token) -> bool
-    ensures { result ≡ spec.knows_connection head.now line.now token }
-{
-    match head.conns.get(0) {
+    match head.conns.get(at as usize) {
         Some(conn) => gives(line, token, conn.name),
         None => false,
     }
 }
 
-fn is_column(columns: &[Column], line: &[u8], token: Token, at: u8) -> bool
-    ensures { result ≡ spec.is_column columns.now line.now token at }
-{
-    match columns.get(at as usize) {
-        Some(column) => gives(line, token, column.name),
-        None => false,
-    }
-}
-
-const PLACES: [u8; 8] = [0, 1, 2, 3, 4, 5, 6, 7];
-
-fn first_place(columns: &[Column], line: &[u8], token: Token, mut places: &[u8]) -> Option<u8>
-    ensures { result ≡ find (spec.is_column columns.now line.now token) places.entry.now }
+fn first_connection(head: &Head, line: &[u8], token: Token, mut places: &[u8]) -> Option<u8>
+    ensures { result ≡ find (spec.is_connection head.now line.now token) places.entry.now }
 {
     while let [at, rest @ ..] = places {
-        if is_column(columns, line, token, *at) {
+        if is_connection(head, line, token, *at) {
             return Some(*at);
         }
         places = rest;
@@ -126,112 +94,59 @@ fn first_place(columns: &[Column], line: &[u8], token: Token, mut places: &[u8])
     None
 }
 
-#[tactic(auto, unfolding(crate::specs::Rules::place_of))]
-pub fn place_of(head: &Head, line: &[u8], token: Token) -> Option<u8>
-    ensures { result ≡ spec.place_of head.now line.now token }
+#[tactic(auto, unfolding(crate::specs::Naming::connection_place))]
+fn connection_place(head: &Head, line: &[u8], token: Token) -> Option<u8>
+    ensures { result ≡ spec.connection_place head.now line.now token }
 {
-    match head.tables.get(0) {
-        Some(table) => first_place(table.columns.as_slice(), line, token, &PLACES),
-        None => None,
+    first_connection(head, line, token, &PLACES)
+}
+
+/// The connection that a line uses. With a fault it is any.
+pub fn connection_of(head: &Head, line: &[u8], token: Token) -> Conn
+    ensures { result ≡ spec.connection_of head.now line.now token }
+{
+    match connection_place(head, line, token) {
+        Some(at) => Conn(at),
+        None => Conn(0),
     }
 }
 
-#[tactic(auto, unfolding(crate::specs::Rules::value_of))]
-fn value_of(line: &[u8], token: Token) -> Option<Value>
-    ensures { result ≡ spec.value_of line.now token }
+pub fn connection_fault(head: &Head, line: &[u8], token: Token) -> Option<Fault>
+    ensures { result ≡ spec.connection_fault head.now line.now token }
 {
-    if same(Kind::Null, token.kind) {
-        return Some(Value::Null);
-    }
-    match integer(text_of(line, token)) {
-        Some(value) => Some(Value::Int(value)),
-        None => None,
-    }
+    unless(
+        connection_place(head, line, token).is_some(),
+        token,
+        Cause::Unknown,
+    )
 }
 
-pub fn values_of(
-    alloc: Global,
-    line: &[u8],
-    mut values: &[Token],
-) -> Result<Option<Items<Value>>, Memory>
-    ensures { IfOk result (λ row. row ≡ spec.all_some (map (spec.value_of line.now) values.entry.now)) }
+/// The number that a token gives, where it lies within these bounds.
+#[tactic(auto, unfolding(crate::specs::Naming::ranged))]
+pub fn ranged(line: &[u8], token: Token, low: u32, high: u32) -> Option<u32>
+    ensures value { result ≡ spec.ranged line.now token low high }
+    ensures within { IfSome result (λ n. n ≤ high) }
 {
-    let mut row = Items::new(alloc);
-    while let [token, rest @ ..] = values {
-        match value_of(line, *token) {
-            Some(value) => row.push(value)?,
-            None => return Ok(None),
-        }
-        values = rest;
-    }
-    Ok(Some(row))
-}
-
-fn fits_number(kind: ColumnKind, n: i64) -> bool
-    ensures { result ≡ typing.fits_kind kind (value.Int n) }
-{
-    match kind {
-        ColumnKind::Integer => -2147483648 <= n && n <= 2147483647,
-        ColumnKind::Bigint => i64::MIN <= n && n <= i64::MAX,
-        ColumnKind::Varchar(_) => false,
-    }
-}
-
-fn fits_text(kind: ColumnKind, text: &Text) -> bool
-    ensures { result ≡ typing.fits_kind kind (value.Text text.now) }
-{
-    match kind {
-        ColumnKind::Varchar(most) => text.as_bytes().len() <= most as usize,
-        _ => false,
-    }
-}
-
-fn fits_kind(kind: ColumnKind, value: &Value) -> bool
-    ensures { result ≡ typing.fits_kind kind value.now }
-{
-    match value {
-        Value::Null => true,
-        Value::Int(n) => fits_number(kind, *n),
-        Value::Text(text) => fits_text(kind, text),
-    }
-}
-
-fn is_null(value: &Value) -> bool
-    ensures { result ≡ typing.is_null value.now }
-{
-    matches!(value, Value::Null)
-}
-
-fn fits_column(column: &Column, value: &Value) -> bool
-    ensures { result ≡ typing.fits_column column.now value.now }
-{
-    fits_kind(column.kind, value) && !(column.required && is_null(value))
-}
-
-fn all_fit(mut columns: &[Column], mut row: &[Value]) -> bool
-    ensures { result ≡ typing.all_fit columns.entry.now row.entry.now }
-{
-    while let [column, columns_left @ ..] = columns {
-        match row {
-            [value, values_left @ ..] => {
-                if !fits_column(column, value) {
-                    return false;
-                }
-                columns = columns_left;
-                row = values_left;
+    let value = integer(text_of(line, token))?;
+    match u32::try_from(value) {
+        Ok(number) => {
+            if low <= number && number <= high {
+                Some(number)
+            } else {
+                None
             }
-            [] => return false,
         }
+        Err(_) => None,
     }
-    row.is_empty()
 }
 
-/// Whether the row fits the script's table.
-pub fn row_fits(head: &Head, row: &[Value]) -> bool
-    ensures { result ≡ typing.row_fits head.now spec.table0 row.now }
+pub fn ranged_or_low(line: &[u8], token: Token, low: u32, high: u32) -> u32
+    requires { low ≤ high }
+    ensures value { result ≡ spec.ranged_or_low line.now token low high }
+    ensures within { result ≤ high }
 {
-    match head.tables.get(0) {
-        Some(table) => all_fit(table.columns.as_slice(), row),
-        None => false,
+    match ranged(line, token, low, high) {
+        Some(number) => number,
+        None => low,
     }
 }

@@ -4,8 +4,10 @@ ghost use Rattle.std.specs.Prelude.{◌≡◌, ◌≤◌, ◌⊎◌, ℕ, List, 
 ghost use Rattle.iso_grammar.specs.Lines.{lines};
 ghost use Rattle.iso_script.specs.Built.{IsBuilt};
 ghost use Rattle.iso_script.specs.Numbered.{rises_above};
+ghost use Rattle.iso_script.specs.Sound.{IsSound};
 ghost use Rattle.iso_script.specs.Reading as spec;
 ghost use Rattle.iso_script.specs.declared.script.Script as told;
+ghost use Rattle.iso_script.specs.declared.fault.LineCause.{LineCause as Why};
 
 use crate::fault::{LineCause, ScriptFault};
 use crate::reader::{Place, Reader};
@@ -36,22 +38,22 @@ fn read_lines(alloc: Global, bytes: &[u8]) -> Result<Reader, ScriptFault>
     if is_ended(&reader) {
         return Ok(reader);
     }
-    Err(ScriptFault::BadLine(number, LineCause::Unbuilt))
+    Err(ScriptFault::BadLine(number, LineCause::Syntax(1)))
 }
 
 impl Script {
-    /// Reads a script of this stage: its first line, one table of integer columns, one connection,
-    /// and then INSERT, SELECT .. WITH UR and COMMIT, the last of them a COMMIT. At most 1,048,576
-    /// bytes.
+    /// Reads a script of at most 1,048,576 bytes: its first line, head lines in any order, BEGIN, body lines, END.
     ///
-    /// `BadLine` names the first line with which the lines so far begin no such script, or the line
-    /// after the last where END is missing; its cause is `Unbuilt`. `Memory` is want of memory.
-    /// Cost: one pass over the bytes. The form is this project's own.
+    /// `BadLine` names the first line that is no line of the grammar in its position, or has a fault, or is not built
+    /// yet, with its cause and place; a missing END is `Syntax(1)` of the line after the last. `Memory` is want of
+    /// memory. Cost: one pass over the bytes; a name is looked up among those that were declared. The form is this
+    /// project's own.
     pub fn read(alloc: Global, bytes: &[u8]) -> Result<Script, ScriptFault>
         requires { length bytes.now ≤ 1048576 }
         ensures read { IfOk result (λ s. spec.reads bytes.now s) }
         ensures built { IfOk result (λ s. IsBuilt s) }
         ensures rising { IfOk result (λ s. rises_above 0 s.lines ≡ true) }
+        ensures sound { IfOk result (λ s. IsSound s) }
         ensures refused { IfErr result (λ e. spec.Refuses bytes.now e) }
     {
         let reader = read_lines(alloc, bytes)?;
@@ -59,12 +61,13 @@ impl Script {
     }
 }
 
-/// Each list of bytes is read as one script, or has one first bad line, and never both.
+/// Each list of bytes is read as one script, or has one first bad line with one cause, and never both.
 pub fn exactly_one()
-    ensures one_way { (bytes : List ℕ) → ((s : told.Script) × spec.reads bytes s) ⊎ ((n : ℕ) × spec.bad bytes n) }
-    ensures not_both { (bytes : List ℕ) (s : told.Script) (n : ℕ) → spec.reads bytes s → spec.bad bytes n → ⊥ }
+    ensures one_way { (bytes : List ℕ) → ((s : told.Script) × spec.reads bytes s) ⊎ ((n : ℕ) × (why : Why) × spec.bad bytes n why) }
+    ensures not_both { (bytes : List ℕ) (s : told.Script) (n : ℕ) (why : Why) → spec.reads bytes s → spec.bad bytes n why → ⊥ }
     ensures one_script { (bytes : List ℕ) (s t : told.Script) → spec.reads bytes s → spec.reads bytes t → s ≡ t }
-    ensures one_bad { (bytes : List ℕ) (m n : ℕ) → spec.bad bytes m → spec.bad bytes n → m ≡ n }
+    ensures one_bad { (bytes : List ℕ) (m n : ℕ) (v w : Why) → spec.bad bytes m v → spec.bad bytes n w → (m ≡ n) × (v ≡ w) }
     ensures built { (bytes : List ℕ) (s : told.Script) → spec.reads bytes s → IsBuilt s }
+    ensures sound { (bytes : List ℕ) (s : told.Script) → spec.reads bytes s → IsSound s }
     ensures rising { (bytes : List ℕ) (s : told.Script) → spec.reads bytes s → rises_above 0 s.lines ≡ true }
 {}

@@ -1,68 +1,102 @@
 //! What stands between the lines of a script that is read.
 
-ghost use Rattle.std.specs.Prelude.{◌≡◌, ◌<◌, ◌^◌, length, OnOk};
+ghost use Rattle.std.specs.Prelude.{◌≡◌, ◌<◌, ◌^◌, ◌+◌, length, OnOk};
 ghost use Rattle.iso_grammar.specs.Grammar.{Answers};
 ghost use Rattle.iso_grammar.specs.Lex.{tokens};
+ghost use Rattle.iso_script.specs.Advance as step;
 ghost use Rattle.iso_script.specs.Built.{is_commit};
 ghost use Rattle.iso_script.specs.Rules as rule;
 ghost use Rattle.iso_script.specs.Reading as spec;
-ghost use Rattle.iso_script.specs.Steps.{EventAnswers, LineAnswers};
-ghost use Rattle.iso_script.specs.declared.script.What.TheVariants as what;
-ghost use Rattle.iso_script.specs.declared.reader.Event.TheVariants as event;
+ghost use Rattle.iso_script.specs.Steps.{EventAnswers, LineAnswers, verdict as judged};
+ghost use Rattle.iso_script.specs.declared.event.Event.TheVariants as event;
 
-use crate::fault::{LineCause, ScriptFault};
+use crate::event::{Event, Setting, Settings};
+use crate::fault::{LineCause, ScriptFault, cause_of};
 use crate::rules::whole_line;
 use crate::script::{Line, Script, What};
-use iso_grammar::{ReadError, Token, Tokens, is_comment, tokens_of};
+use crate::unbuilt::is_built;
+use iso_grammar::{Checked, ReadError, Token, Tokens, is_comment, place_of, tokens_of};
 use iso_sql::Statement;
-use iso_types::{Config, Conn, ConnDef, Head, Items, Memory, TableDef};
+use iso_types::{Config, Conn, Head, Items, Memory};
 use std::alloc::Global;
 
 /// Which line may come next.
 #[derive(Clone, Copy)]
 pub enum Place {
     First,
-    Table,
-    Connect,
-    Begin,
+    Head,
     Body,
     After,
 }
 
-/// What a line says.
-#[derive(Drop)]
-pub enum Event {
-    First,
-    Table(TableDef),
-    Connect(ConnDef),
-    Begin,
-    Stated(Statement),
-    End,
-}
-
-/// A script so far; it is unfinished where its last statement is no COMMIT.
+/// A script so far, with the settings that were declared; it is unfinished where its last body line is no COMMIT.
 #[derive(Drop)]
 pub struct Reader {
     pub place: Place,
+    pub set: Settings,
     pub unfinished: bool,
     pub script: Script,
 }
 
-fn is_commit_statement(statement: &Statement) -> bool
-    ensures { result ≡ is_commit (what.Statement statement.now) }
+fn is_commit_line(what: &What) -> bool
+    ensures { result ≡ is_commit what.now }
 {
-    matches!(statement, Statement::Commit)
+    matches!(what, What::Statement(Statement::Commit))
 }
 
-fn line_of(number: u32, statement: Statement) -> Line
-    ensures { result ≡ rule.line_of number statement }
+fn with_setting(config: Config, setting: Setting) -> Config
+    ensures { result ≡ step.with_setting config setting }
 {
-    Line {
-        number,
-        conn: Some(Conn(0)),
-        free: false,
-        what: What::Statement(statement),
+    match setting {
+        Setting::CurCommit(cur_commit) => Config {
+            cur_commit,
+            ..config
+        },
+        Setting::Locklist(locklist) => Config { locklist, ..config },
+        Setting::Maxlocks(maxlocks) => Config { maxlocks, ..config },
+        Setting::Logmax(logmax) => Config { logmax, ..config },
+        Setting::Window(window) => Config { window, ..config },
     }
+}
+
+fn with_set(set: Settings, setting: Setting) -> Settings
+    ensures { result ≡ step.with_set set setting }
+{
+    match setting {
+        Setting::CurCommit(_) => Settings {
+            cur_commit: true,
+            ..set
+        },
+        Setting::Locklist(_) => Settings {
+            locklist: true,
+            ..set
+        },
+        Setting::Maxlocks(_) => Settings {
+            maxlocks: true,
+            ..set
+        },
+        Setting::Logmax(_) => Settings {
+            logmax: true,
+            ..set
+        },
+        Setting::Window(_) => Settings {
+            window: true,
+            ..set
+        },
+    }
+}
+
+/// What a line with these faults says.
+fn verdict(reader: &Reader, found: Checked<Event>) -> Result<Event, LineCause>
+    ensures { result ≡ judged reader.now found }
+{
+    if let Some(fault) = found.fault {
+        return Err(cause_of(fault));
+    }
+    if is_built(reader, &found.value) {
+        return Ok(found.value);
+    }
+    Err(LineCause::Unbuilt)
 }
 
 impl Reader {
@@ -72,6 +106,13 @@ impl Reader {
     {
         Reader {
             place: Place::First,
+            set: Settings {
+                cur_commit: false,
+                locklist: false,
+                maxlocks: false,
+                logmax: false,
+                window: false,
+            },
             unfinished: false,
             script: Script {
                 head: Head {
@@ -92,35 +133,55 @@ impl Reader {
         }
     }
 
-    fn state(&mut self, number: u32, statement: Statement) -> Result<(), Memory>
-        ensures { OnOk result (self.new ≡ rule.advance self.old number (event.Stated statement)) }
+    fn ask(
+        &mut self,
+        number: u32,
+        conn: Option<Conn>,
+        free: bool,
+        what: What,
+    ) -> Result<(), Memory>
+        ensures { OnOk result (self.new ≡ step.advance self.old number (event.Asked conn free what)) }
     {
-        self.unfinished = !is_commit_statement(&statement);
-        self.script.lines.push(line_of(number, statement))
+        self.unfinished = !is_commit_line(&what);
+        self.script.lines.push(Line {
+            number,
+            conn,
+            free,
+            what,
+        })
+    }
+
+    fn configure(&mut self, setting: Setting, number: u32)
+        ensures { self.new ≡ step.advance self.old number (event.Config setting) }
+    {
+        self.set = with_set(self.set, setting);
+        self.script.head.config = with_setting(self.script.head.config, setting);
     }
 
     fn advance(&mut self, number: u32, event: Event) -> Result<(), Memory>
-        ensures { OnOk result (self.new ≡ rule.advance self.old number event) }
+        ensures { OnOk result (self.new ≡ step.advance self.old number event) }
     {
         match event {
-            Event::First => self.place = Place::Table,
-            Event::Table(table) => {
-                self.place = Place::Connect;
-                self.script.head.tables.push(table)?;
-            }
-            Event::Connect(conn) => {
-                self.place = Place::Begin;
-                self.script.head.conns.push(conn)?;
-            }
+            Event::First => self.place = Place::Head,
+            Event::Config(setting) => self.configure(setting, number),
+            Event::Table(table) => self.script.head.tables.push(table)?,
+            Event::Index(index) => self.script.head.indexes.push(index)?,
+            Event::Row(row) => self.script.head.rows.push(row)?,
+            Event::Connect(conn) => self.script.head.conns.push(conn)?,
             Event::Begin => self.place = Place::Body,
-            Event::Stated(statement) => self.state(number, statement)?,
+            Event::Asked(conn, free, what) => self.ask(number, conn, free, what)?,
             Event::End => self.place = Place::After,
         }
         Ok(())
     }
 
     /// What the tokens of a line say, or where they leave the grammar.
-    fn said(&self, alloc: Global, line: &[u8], tokens: &[Token]) -> Result<Option<Event>, ReadError>
+    fn said(
+        &self,
+        alloc: Global,
+        line: &[u8],
+        tokens: &[Token],
+    ) -> Result<Checked<Event>, ReadError>
         ensures { Answers (rule.rule self.now.place self.now line.now) tokens.now result }
     {
         let mut cursor = Tokens::new(tokens);
@@ -134,20 +195,26 @@ impl Reader {
         found: &[Token],
         number: u32,
     ) -> Result<Event, ScriptFault>
-        requires { found.now ≡ tokens line.now }
+        requires same { found.now ≡ tokens line.now }
+        requires short { length line.now + 1 < 2 ^ 32 }
         ensures { EventAnswers self.now line.now number result }
     {
         match self.said(alloc, line, found) {
             Err(ReadError::Memory) => Err(ScriptFault::Memory),
-            Err(ReadError::Syntax(_)) => Err(ScriptFault::BadLine(number, LineCause::Unbuilt)),
-            Ok(None) => Err(ScriptFault::BadLine(number, LineCause::Unbuilt)),
-            Ok(Some(event)) => Ok(event),
+            Err(ReadError::Syntax(left)) => {
+                let place = place_of(found, left, line.len() as u32);
+                Err(ScriptFault::BadLine(number, LineCause::Syntax(place)))
+            }
+            Ok(said) => match verdict(self, said) {
+                Ok(event) => Ok(event),
+                Err(cause) => Err(ScriptFault::BadLine(number, cause)),
+            },
         }
     }
 
     /// Takes the next line, which has this number.
     pub fn take_line(&mut self, alloc: Global, line: &[u8], number: u32) -> Result<(), ScriptFault>
-        requires { length line.now < 2 ^ 32 }
+        requires { length line.now + 1 < 2 ^ 32 }
         ensures { LineAnswers self.old line.now number result self.new }
     {
         if is_comment(line) {

@@ -2,333 +2,472 @@
 
 ghost use Rattle.std.specs.Prelude.{◌≡◌, length, IfOk};
 ghost use Rattle.iso_grammar.specs.Reading.{Gives, all_of};
-ghost use Rattle.iso_script.specs.Rules as rule;
+ghost use Rattle.iso_script.specs.Keyed.{index_words as words_of};
 ghost use Rattle.iso_script.specs.RuleReading as spec;
 
-use crate::naming::{
-    are_different, columns_of, knows_connection, knows_table, name_of, place_of, row_fits,
-    values_of,
-};
-use crate::reader::{Event, Place, Reader};
-use crate::script::Script;
-use iso_grammar::{Kind, ReadError, Token, Tokens};
-use iso_sql::{Condition, Items2, Statement};
-use iso_types::{ConnDef, Head, Isolation, Items, Memory, Row, TableDef, TableId};
+use crate::event::Event;
+use crate::events::{configured, connected, declared, expired, pictured, plain, stated};
+use crate::keyed::{indexed, rowed};
+use crate::reader::{Place, Reader};
+use crate::words::{ColumnWords, IndexWords, RowWords, SettingName, SettingWords, TypeWords};
+use iso_grammar::{Checked, Kind, ReadError, Token, Tokens};
+use iso_sql::Statement;
+use iso_types::{Head, Isolation, Items};
 use std::alloc::Global;
 
-/// What a list holds: the columns of a TABLE line, or the values of an INSERT.
-#[derive(Clone, Copy)]
-pub enum ListItem {
-    Column,
-    Value,
-}
-
-#[tactic(auto, unfolding(crate::specs::RuleReading::column))]
-fn column(tokens: &mut Tokens<'_>) -> Result<Token, ReadError>
-    ensures { Gives (spec.column) tokens.old result tokens.new }
+#[tactic(auto, unfolding(crate::specs::RuleReading::flag))]
+fn flag(kind: Kind, tokens: &mut Tokens<'_>) -> Result<bool, ReadError>
+    ensures { Gives (spec.flag kind) tokens.old result tokens.new }
 {
-    let column = tokens.expect(Kind::Name)?;
-    tokens.expect(Kind::IntegerWord)?;
-    Ok(column)
+    if tokens.sees(kind) {
+        tokens.expect(kind)?;
+        return Ok(true);
+    }
+    Ok(false)
 }
 
-#[tactic(auto, unfolding(crate::specs::RuleReading::constant))]
-fn constant(tokens: &mut Tokens<'_>) -> Result<Token, ReadError>
-    ensures { Gives (spec.constant) tokens.old result tokens.new }
+#[tactic(auto, unfolding(crate::specs::RuleReading::number))]
+fn number(tokens: &mut Tokens<'_>) -> Result<Token, ReadError>
+    ensures { Gives (spec.number) tokens.old result tokens.new }
 {
     if tokens.sees(Kind::Integer) {
         tokens.expect(Kind::Integer)
-    } else if tokens.sees(Kind::One) {
-        tokens.expect(Kind::One)
     } else {
-        tokens.expect(Kind::Null)
+        tokens.expect(Kind::One)
     }
 }
 
-fn item(which: ListItem, tokens: &mut Tokens<'_>) -> Result<Token, ReadError>
-    ensures { Gives (spec.item_of which) tokens.old result tokens.new }
+#[tactic(auto, unfolding(crate::specs::RuleReading::first_line))]
+fn first_line(tokens: &mut Tokens<'_>) -> Result<Checked<Event>, ReadError>
+    ensures { Gives (spec.first_line) tokens.old result tokens.new }
 {
-    match which {
-        ListItem::Column => column(tokens),
-        ListItem::Value => constant(tokens),
+    tokens.expect(Kind::Db2iso)?;
+    tokens.expect(Kind::One)?;
+    Ok(plain(Event::First))
+}
+
+#[tactic(auto, unfolding(crate::specs::RuleReading::switch))]
+fn switch(tokens: &mut Tokens<'_>) -> Result<Token, ReadError>
+    ensures { Gives (spec.switch) tokens.old result tokens.new }
+{
+    if tokens.sees(Kind::On) {
+        tokens.expect(Kind::On)
+    } else {
+        tokens.expect(Kind::Disabled)
     }
 }
 
-fn next_item(which: ListItem, tokens: &mut Tokens<'_>) -> Result<Token, ReadError>
-    ensures { Gives (spec.next_item which) tokens.old result tokens.new }
+#[tactic(auto, unfolding(crate::specs::RuleReading::switched))]
+fn switched(tokens: &mut Tokens<'_>) -> Result<SettingWords, ReadError>
+    ensures { Gives (spec.switched) tokens.old result tokens.new }
+{
+    let word = tokens.expect(Kind::CurCommit)?;
+    let value = switch(tokens)?;
+    Ok(SettingWords {
+        name: SettingName::CurCommit,
+        word,
+        value,
+    })
+}
+
+#[tactic(auto, unfolding(crate::specs::RuleReading::numbered))]
+fn numbered(
+    kind: Kind,
+    name: SettingName,
+    tokens: &mut Tokens<'_>,
+) -> Result<SettingWords, ReadError>
+    ensures { Gives (spec.numbered kind name) tokens.old result tokens.new }
+{
+    let word = tokens.expect(kind)?;
+    let value = number(tokens)?;
+    Ok(SettingWords { name, word, value })
+}
+
+#[tactic(auto, unfolding(crate::specs::RuleReading::setting_words))]
+fn setting_words(tokens: &mut Tokens<'_>) -> Result<SettingWords, ReadError>
+    ensures { Gives (spec.setting_words) tokens.old result tokens.new }
+{
+    if tokens.sees(Kind::CurCommit) {
+        switched(tokens)
+    } else if tokens.sees(Kind::Locklist) {
+        numbered(Kind::Locklist, SettingName::Locklist, tokens)
+    } else if tokens.sees(Kind::Maxlocks) {
+        numbered(Kind::Maxlocks, SettingName::Maxlocks, tokens)
+    } else if tokens.sees(Kind::Logmax) {
+        numbered(Kind::Logmax, SettingName::Logmax, tokens)
+    } else {
+        numbered(Kind::Window, SettingName::Window, tokens)
+    }
+}
+
+#[tactic(auto, unfolding(crate::specs::RuleReading::config_line))]
+fn config_line(
+    reader: &Reader,
+    line: &[u8],
+    tokens: &mut Tokens<'_>,
+) -> Result<Checked<Event>, ReadError>
+    ensures { Gives (spec.config_line reader.now line.now) tokens.old result tokens.new }
+{
+    tokens.expect(Kind::Config)?;
+    let words = setting_words(tokens)?;
+    Ok(configured(reader.set, line, words))
+}
+
+#[tactic(auto, unfolding(crate::specs::RuleReading::varchar))]
+fn varchar(tokens: &mut Tokens<'_>) -> Result<TypeWords, ReadError>
+    ensures { Gives (spec.varchar) tokens.old result tokens.new }
+{
+    tokens.expect(Kind::Varchar)?;
+    tokens.expect(Kind::Open)?;
+    let size = number(tokens)?;
+    tokens.expect(Kind::Close)?;
+    Ok(TypeWords::Varchar(size))
+}
+
+#[tactic(auto, unfolding(crate::specs::RuleReading::type_words))]
+fn type_words(tokens: &mut Tokens<'_>) -> Result<TypeWords, ReadError>
+    ensures { Gives (spec.type_words) tokens.old result tokens.new }
+{
+    if tokens.sees(Kind::IntegerWord) {
+        tokens.expect(Kind::IntegerWord)?;
+        return Ok(TypeWords::Integer);
+    }
+    if tokens.sees(Kind::Bigint) {
+        tokens.expect(Kind::Bigint)?;
+        return Ok(TypeWords::Bigint);
+    }
+    varchar(tokens)
+}
+
+#[tactic(auto, unfolding(crate::specs::RuleReading::not_null))]
+fn not_null(tokens: &mut Tokens<'_>) -> Result<bool, ReadError>
+    ensures { Gives (spec.not_null) tokens.old result tokens.new }
+{
+    if !tokens.sees(Kind::Not) {
+        return Ok(false);
+    }
+    tokens.expect(Kind::Not)?;
+    tokens.expect(Kind::Null)?;
+    Ok(true)
+}
+
+#[tactic(auto, unfolding(crate::specs::RuleReading::column))]
+fn column(tokens: &mut Tokens<'_>) -> Result<ColumnWords, ReadError>
+    ensures { Gives (spec.column) tokens.old result tokens.new }
+{
+    let name = tokens.expect(Kind::Name)?;
+    let kind = type_words(tokens)?;
+    let required = not_null(tokens)?;
+    Ok(ColumnWords {
+        name,
+        kind,
+        required,
+    })
+}
+
+fn next_column(tokens: &mut Tokens<'_>) -> Result<ColumnWords, ReadError>
+    ensures { Gives (spec.next_column) tokens.old result tokens.new }
 {
     tokens.expect(Kind::Comma)?;
-    item(which, tokens)
+    column(tokens)
 }
 
-#[tactic(auto, unfolding(crate::specs::RuleReading::separated))]
-fn separated(
+#[tactic(auto, unfolding(crate::specs::RuleReading::columns))]
+fn columns(
     alloc: Global,
-    which: ListItem,
     tokens: &mut Tokens<'_>,
     bound: usize,
-) -> Result<Items<Token>, ReadError>
+) -> Result<Items<ColumnWords>, ReadError>
     requires most { tokens.old.most ≡ bound }
-    ensures { Gives (spec.separated which bound) tokens.old result tokens.new }
+    ensures { Gives (spec.columns bound) tokens.old result tokens.new }
 {
-    let first = item(which, tokens)?;
+    let first = column(tokens)?;
     let mut all = Items::new(alloc);
     all.push(first)?;
     for _turn in 0..bound {
         if !tokens.sees(Kind::Comma) {
             break;
         }
-        let next = next_item(which, tokens)?;
+        let next = next_column(tokens)?;
         all.push(next)?;
     }
     Ok(all)
 }
 
-#[tactic(auto, unfolding(crate::specs::RuleReading::first_line))]
-fn first_line(tokens: &mut Tokens<'_>) -> Result<Option<Event>, ReadError>
-    ensures { Gives (spec.first_line) tokens.old result tokens.new }
-{
-    tokens.expect(Kind::Db2iso)?;
-    tokens.expect(Kind::One)?;
-    Ok(Some(Event::First))
-}
-
-#[tactic(auto, unfolding(crate::specs::Rules::declared))]
-fn declared(
-    alloc: Global,
-    line: &[u8],
-    table: Token,
-    columns: &[Token],
-) -> Result<Option<Event>, Memory>
-    ensures { IfOk result (λ e. e ≡ rule.declared line.now table columns.now) }
-{
-    let Some(name) = name_of(line, table) else {
-        return Ok(None);
-    };
-    let Some(columns) = columns_of(alloc, line, columns)? else {
-        return Ok(None);
-    };
-    if columns.len() > 8 || !are_different(columns.as_slice()) {
-        return Ok(None);
-    }
-    Ok(Some(Event::Table(TableDef { name, columns })))
-}
-
 #[tactic(auto, unfolding(crate::specs::RuleReading::table_line))]
 fn table_line(
     alloc: Global,
+    reader: &Reader,
     line: &[u8],
     tokens: &mut Tokens<'_>,
     bound: usize,
-) -> Result<Option<Event>, ReadError>
+) -> Result<Checked<Event>, ReadError>
     requires most { tokens.old.most ≡ bound }
-    ensures { Gives (spec.table_line line.now bound) tokens.old result tokens.new }
+    ensures { Gives (spec.table_line reader.now line.now bound) tokens.old result tokens.new }
 {
     tokens.expect(Kind::Table)?;
     let table = tokens.expect(Kind::Name)?;
     tokens.expect(Kind::Open)?;
-    let columns = separated(alloc, ListItem::Column, tokens, bound)?;
+    let found = columns(alloc, tokens, bound)?;
     tokens.expect(Kind::Close)?;
-    Ok(declared(alloc, line, table, columns.as_slice())?)
+    let head = &reader.script.head;
+    Ok(declared(alloc, head, line, table, found.as_slice())?)
 }
 
-#[tactic(auto, unfolding(crate::specs::Rules::connected))]
-fn connected(line: &[u8], conn: Token) -> Option<Event>
-    ensures { result ≡ rule.connected line.now conn }
+#[tactic(auto, unfolding(crate::specs::RuleReading::literal))]
+fn literal(tokens: &mut Tokens<'_>) -> Result<Token, ReadError>
+    ensures { Gives (spec.literal) tokens.old result tokens.new }
 {
-    match name_of(line, conn) {
-        Some(name) => Some(Event::Connect(ConnDef {
-            name,
-            isolation: Isolation::Cs,
-        })),
-        None => None,
+    if tokens.sees(Kind::Integer) {
+        tokens.expect(Kind::Integer)
+    } else if tokens.sees(Kind::One) {
+        tokens.expect(Kind::One)
+    } else if tokens.sees(Kind::Text) {
+        tokens.expect(Kind::Text)
+    } else {
+        tokens.expect(Kind::Null)
     }
+}
+
+fn next_literal(tokens: &mut Tokens<'_>) -> Result<Token, ReadError>
+    ensures { Gives (spec.next_literal) tokens.old result tokens.new }
+{
+    tokens.expect(Kind::Comma)?;
+    literal(tokens)
+}
+
+#[tactic(auto, unfolding(crate::specs::RuleReading::literals))]
+fn literals(
+    alloc: Global,
+    tokens: &mut Tokens<'_>,
+    bound: usize,
+) -> Result<Items<Token>, ReadError>
+    requires most { tokens.old.most ≡ bound }
+    ensures { Gives (spec.literals bound) tokens.old result tokens.new }
+{
+    let first = literal(tokens)?;
+    let mut all = Items::new(alloc);
+    all.push(first)?;
+    for _turn in 0..bound {
+        if !tokens.sees(Kind::Comma) {
+            break;
+        }
+        let next = next_literal(tokens)?;
+        all.push(next)?;
+    }
+    Ok(all)
+}
+
+#[tactic(auto, unfolding(crate::specs::RuleReading::row_line))]
+fn row_line(
+    alloc: Global,
+    reader: &Reader,
+    line: &[u8],
+    tokens: &mut Tokens<'_>,
+    bound: usize,
+) -> Result<Checked<Event>, ReadError>
+    requires most { tokens.old.most ≡ bound }
+    ensures { Gives (spec.row_line reader.now line.now bound) tokens.old result tokens.new }
+{
+    let first = tokens.expect(Kind::Row)?;
+    let table = tokens.expect(Kind::Name)?;
+    tokens.expect(Kind::Open)?;
+    let values = literals(alloc, tokens, bound)?;
+    let close = tokens.expect(Kind::Close)?;
+    let words = RowWords {
+        first,
+        table,
+        close,
+    };
+    let head = &reader.script.head;
+    Ok(rowed(alloc, head, line, words, values.as_slice())?)
+}
+
+fn index_words(
+    unique: Option<Token>,
+    word: Token,
+    name: Token,
+    table: Token,
+    column: Token,
+) -> IndexWords
+    ensures { result ≡ words_of unique word name table column }
+{
+    IndexWords {
+        first: unique.unwrap_or(word),
+        unique: unique.is_some(),
+        name,
+        table,
+        column,
+    }
+}
+
+#[tactic(auto, unfolding(crate::specs::RuleReading::index_on))]
+fn index_on(
+    reader: &Reader,
+    line: &[u8],
+    unique: Option<Token>,
+    tokens: &mut Tokens<'_>,
+) -> Result<Checked<Event>, ReadError>
+    ensures { Gives (spec.index_on reader.now line.now unique) tokens.old result tokens.new }
+{
+    let word = tokens.expect(Kind::Index)?;
+    let name = tokens.expect(Kind::Name)?;
+    tokens.expect(Kind::On)?;
+    let table = tokens.expect(Kind::Name)?;
+    tokens.expect(Kind::Open)?;
+    let column = tokens.expect(Kind::Name)?;
+    tokens.expect(Kind::Close)?;
+    let words = index_words(unique, word, name, table, column);
+    Ok(indexed(&reader.script.head, line, words))
+}
+
+#[tactic(auto, unfolding(crate::specs::RuleReading::index_line))]
+fn index_line(
+    reader: &Reader,
+    line: &[u8],
+    tokens: &mut Tokens<'_>,
+) -> Result<Checked<Event>, ReadError>
+    ensures { Gives (spec.index_line reader.now line.now) tokens.old result tokens.new }
+{
+    let unique = tokens.take(Kind::Unique)?;
+    index_on(reader, line, unique, tokens)
+}
+
+#[tactic(auto, unfolding(crate::specs::RuleReading::isolation))]
+fn isolation(tokens: &mut Tokens<'_>) -> Result<Isolation, ReadError>
+    ensures { Gives (spec.isolation) tokens.old result tokens.new }
+{
+    if tokens.sees(Kind::Ur) {
+        tokens.expect(Kind::Ur)?;
+        return Ok(Isolation::Ur);
+    }
+    if tokens.sees(Kind::Cs) {
+        tokens.expect(Kind::Cs)?;
+        return Ok(Isolation::Cs);
+    }
+    if tokens.sees(Kind::Rs) {
+        tokens.expect(Kind::Rs)?;
+        return Ok(Isolation::Rs);
+    }
+    if tokens.sees(Kind::Rr) {
+        tokens.expect(Kind::Rr)?;
+        return Ok(Isolation::Rr);
+    }
+    Ok(Isolation::Cs)
 }
 
 #[tactic(auto, unfolding(crate::specs::RuleReading::connect_line))]
-fn connect_line(line: &[u8], tokens: &mut Tokens<'_>) -> Result<Option<Event>, ReadError>
-    ensures { Gives (spec.connect_line line.now) tokens.old result tokens.new }
+fn connect_line(
+    reader: &Reader,
+    line: &[u8],
+    tokens: &mut Tokens<'_>,
+) -> Result<Checked<Event>, ReadError>
+    ensures { Gives (spec.connect_line reader.now line.now) tokens.old result tokens.new }
 {
     tokens.expect(Kind::Connect)?;
     let conn = tokens.expect(Kind::Name)?;
-    Ok(connected(line, conn))
+    let level = isolation(tokens)?;
+    Ok(connected(&reader.script.head, line, conn, level))
 }
 
 #[tactic(auto, unfolding(crate::specs::RuleReading::begin_line))]
-fn begin_line(tokens: &mut Tokens<'_>) -> Result<Option<Event>, ReadError>
+fn begin_line(tokens: &mut Tokens<'_>) -> Result<Checked<Event>, ReadError>
     ensures { Gives (spec.begin_line) tokens.old result tokens.new }
 {
     tokens.expect(Kind::Begin)?;
-    Ok(Some(Event::Begin))
+    Ok(plain(Event::Begin))
 }
 
-#[tactic(auto, unfolding(crate::specs::Rules::inserted))]
-fn inserted(
-    alloc: Global,
-    head: &Head,
-    line: &[u8],
-    table: Token,
-    values: &[Token],
-) -> Result<Option<Statement>, Memory>
-    ensures { IfOk result (λ x. x ≡ rule.inserted head.now line.now table values.now) }
-{
-    if !knows_table(head, line, table) {
-        return Ok(None);
-    }
-    let Some(row) = values_of(alloc, line, values)? else {
-        return Ok(None);
-    };
-    if !row_fits(head, row.as_slice()) {
-        return Ok(None);
-    }
-    let row = Row::of(alloc, row.as_slice())?;
-    Ok(Some(Statement::Insert {
-        table: TableId(0),
-        row,
-    }))
-}
-
-#[tactic(auto, unfolding(crate::specs::RuleReading::insert))]
-fn insert(
-    alloc: Global,
-    head: &Head,
-    line: &[u8],
+#[tactic(auto, unfolding(crate::specs::RuleReading::statement))]
+fn statement(
+    _alloc: Global,
+    _head: &Head,
+    _line: &[u8],
     tokens: &mut Tokens<'_>,
     bound: usize,
-) -> Result<Option<Statement>, ReadError>
+) -> Result<Checked<Statement>, ReadError>
     requires most { tokens.old.most ≡ bound }
-    ensures { Gives (spec.insert head.now line.now bound) tokens.old result tokens.new }
-{
-    tokens.expect(Kind::Insert)?;
-    tokens.expect(Kind::Into)?;
-    let table = tokens.expect(Kind::Name)?;
-    tokens.expect(Kind::Values)?;
-    tokens.expect(Kind::Open)?;
-    let values = separated(alloc, ListItem::Value, tokens, bound)?;
-    tokens.expect(Kind::Close)?;
-    Ok(inserted(alloc, head, line, table, values.as_slice())?)
-}
-
-fn selecting(alloc: Global, at: u8) -> Result<Statement, Memory>
-    ensures { IfOk result (λ x. x ≡ rule.selecting at) }
-{
-    let mut columns = Items::new(alloc);
-    columns.push(at)?;
-    Ok(Statement::Select {
-        table: TableId(0),
-        items: Items2::Columns(columns),
-        cond: Condition::Always,
-        level: Some(Isolation::Ur),
-    })
-}
-
-#[tactic(auto, unfolding(crate::specs::Rules::selected))]
-fn selected(
-    alloc: Global,
-    head: &Head,
-    line: &[u8],
-    column: Token,
-    table: Token,
-) -> Result<Option<Statement>, Memory>
-    ensures { IfOk result (λ x. x ≡ rule.selected head.now line.now column table) }
-{
-    if !knows_table(head, line, table) {
-        return Ok(None);
-    }
-    match place_of(head, line, column) {
-        Some(at) => Ok(Some(selecting(alloc, at)?)),
-        None => Ok(None),
-    }
-}
-
-#[tactic(auto, unfolding(crate::specs::RuleReading::select))]
-fn select(
-    alloc: Global,
-    head: &Head,
-    line: &[u8],
-    tokens: &mut Tokens<'_>,
-) -> Result<Option<Statement>, ReadError>
-    ensures { Gives (spec.select head.now line.now) tokens.old result tokens.new }
-{
-    tokens.expect(Kind::Select)?;
-    let column = tokens.expect(Kind::Name)?;
-    tokens.expect(Kind::From)?;
-    let table = tokens.expect(Kind::Name)?;
-    tokens.expect(Kind::With)?;
-    tokens.expect(Kind::Ur)?;
-    Ok(selected(alloc, head, line, column, table)?)
-}
-
-#[tactic(auto, unfolding(crate::specs::RuleReading::commit))]
-fn commit(tokens: &mut Tokens<'_>) -> Result<Option<Statement>, ReadError>
-    ensures { Gives (spec.commit) tokens.old result tokens.new }
+    ensures { Gives (spec.statement _head.now _line.now bound) tokens.old result tokens.new }
 {
     tokens.expect(Kind::Commit)?;
-    Ok(Some(Statement::Commit))
-}
-
-#[tactic(auto, unfolding(crate::specs::RuleReading::any_statement))]
-fn any_statement(
-    alloc: Global,
-    head: &Head,
-    line: &[u8],
-    tokens: &mut Tokens<'_>,
-    bound: usize,
-) -> Result<Option<Statement>, ReadError>
-    requires most { tokens.old.most ≡ bound }
-    ensures { Gives (spec.any_statement head.now line.now bound) tokens.old result tokens.new }
-{
-    if tokens.sees(Kind::Insert) {
-        insert(alloc, head, line, tokens, bound)
-    } else if tokens.sees(Kind::Select) {
-        select(alloc, head, line, tokens)
-    } else {
-        commit(tokens)
-    }
-}
-
-#[tactic(auto, unfolding(crate::specs::Rules::stated))]
-fn stated(script: &Script, line: &[u8], conn: Token, found: Option<Statement>) -> Option<Event>
-    ensures { result ≡ rule.stated script.now line.now conn found }
-{
-    if !knows_connection(&script.head, line, conn) || script.lines.len() >= 1000 {
-        return None;
-    }
-    match found {
-        Some(statement) => Some(Event::Stated(statement)),
-        None => None,
-    }
+    Ok(Checked {
+        value: Statement::Commit,
+        fault: None,
+    })
 }
 
 #[tactic(auto, unfolding(crate::specs::RuleReading::statement_line))]
 fn statement_line(
     alloc: Global,
-    script: &Script,
+    reader: &Reader,
     line: &[u8],
     tokens: &mut Tokens<'_>,
     bound: usize,
-) -> Result<Option<Event>, ReadError>
+) -> Result<Checked<Event>, ReadError>
     requires most { tokens.old.most ≡ bound }
-    ensures { Gives (spec.statement_line script.now line.now bound) tokens.old result tokens.new }
+    ensures { Gives (spec.statement_line reader.now line.now bound) tokens.old result tokens.new }
 {
+    let free = flag(Kind::Ampersand, tokens)?;
     let conn = tokens.expect(Kind::Name)?;
     tokens.expect(Kind::Colon)?;
-    let found = any_statement(alloc, &script.head, line, tokens, bound)?;
-    Ok(stated(script, line, conn, found))
+    let found = statement(alloc, &reader.script.head, line, tokens, bound)?;
+    flag(Kind::Semicolon, tokens)?;
+    Ok(stated(&reader.script.head, line, free, conn, found))
 }
 
-fn ended(unfinished: bool) -> Option<Event>
-    ensures { result ≡ rule.ended unfinished }
+#[tactic(auto, unfolding(crate::specs::RuleReading::expire_line))]
+fn expire_line(
+    reader: &Reader,
+    line: &[u8],
+    tokens: &mut Tokens<'_>,
+) -> Result<Checked<Event>, ReadError>
+    ensures { Gives (spec.expire_line reader.now line.now) tokens.old result tokens.new }
 {
-    if unfinished { None } else { Some(Event::End) }
+    tokens.expect(Kind::Expire)?;
+    let conn = tokens.expect(Kind::Name)?;
+    Ok(expired(&reader.script.head, line, conn))
+}
+
+#[tactic(auto, unfolding(crate::specs::RuleReading::snapshot_line))]
+fn snapshot_line(reader: &Reader, tokens: &mut Tokens<'_>) -> Result<Checked<Event>, ReadError>
+    ensures { Gives (spec.snapshot_line reader.now) tokens.old result tokens.new }
+{
+    tokens.expect(Kind::Snapshot)?;
+    Ok(pictured(reader.script.lines.as_slice()))
 }
 
 #[tactic(auto, unfolding(crate::specs::RuleReading::end_line))]
-fn end_line(unfinished: bool, tokens: &mut Tokens<'_>) -> Result<Option<Event>, ReadError>
-    ensures { Gives (spec.end_line unfinished) tokens.old result tokens.new }
+fn end_line(tokens: &mut Tokens<'_>) -> Result<Checked<Event>, ReadError>
+    ensures { Gives (spec.end_line) tokens.old result tokens.new }
 {
     tokens.expect(Kind::End)?;
-    Ok(ended(unfinished))
+    Ok(plain(Event::End))
+}
+
+#[tactic(auto, unfolding(crate::specs::RuleReading::head_line))]
+fn head_line(
+    alloc: Global,
+    reader: &Reader,
+    line: &[u8],
+    tokens: &mut Tokens<'_>,
+    bound: usize,
+) -> Result<Checked<Event>, ReadError>
+    requires most { tokens.old.most ≡ bound }
+    ensures { Gives (spec.head_line reader.now line.now bound) tokens.old result tokens.new }
+{
+    if tokens.sees(Kind::Config) {
+        config_line(reader, line, tokens)
+    } else if tokens.sees(Kind::Table) {
+        table_line(alloc, reader, line, tokens, bound)
+    } else if tokens.sees_either(Kind::Unique, Kind::Index) {
+        index_line(reader, line, tokens)
+    } else if tokens.sees(Kind::Row) {
+        row_line(alloc, reader, line, tokens, bound)
+    } else if tokens.sees(Kind::Connect) {
+        connect_line(reader, line, tokens)
+    } else {
+        begin_line(tokens)
+    }
 }
 
 #[tactic(auto, unfolding(crate::specs::RuleReading::body_line))]
@@ -338,14 +477,18 @@ fn body_line(
     line: &[u8],
     tokens: &mut Tokens<'_>,
     bound: usize,
-) -> Result<Option<Event>, ReadError>
+) -> Result<Checked<Event>, ReadError>
     requires most { tokens.old.most ≡ bound }
-    ensures { Gives (spec.body_line reader.now.script reader.now.unfinished line.now bound) tokens.old result tokens.new }
+    ensures { Gives (spec.body_line reader.now line.now bound) tokens.old result tokens.new }
 {
-    if tokens.sees(Kind::Name) {
-        statement_line(alloc, &reader.script, line, tokens, bound)
+    if tokens.sees_either(Kind::Ampersand, Kind::Name) {
+        statement_line(alloc, reader, line, tokens, bound)
+    } else if tokens.sees(Kind::Expire) {
+        expire_line(reader, line, tokens)
+    } else if tokens.sees(Kind::Snapshot) {
+        snapshot_line(reader, tokens)
     } else {
-        end_line(reader.unfinished, tokens)
+        end_line(tokens)
     }
 }
 
@@ -355,17 +498,15 @@ fn any_line(
     line: &[u8],
     tokens: &mut Tokens<'_>,
     bound: usize,
-) -> Result<Option<Event>, ReadError>
+) -> Result<Checked<Event>, ReadError>
     requires most { tokens.old.most ≡ bound }
     ensures { Gives (spec.rule reader.now.place reader.now line.now bound) tokens.old result tokens.new }
 {
     match reader.place {
         Place::First => first_line(tokens),
-        Place::Table => table_line(alloc, line, tokens, bound),
-        Place::Connect => connect_line(line, tokens),
-        Place::Begin => begin_line(tokens),
+        Place::Head => head_line(alloc, reader, line, tokens, bound),
         Place::Body => body_line(alloc, reader, line, tokens, bound),
-        Place::After => Ok(None),
+        Place::After => Ok(plain(Event::End)),
     }
 }
 
@@ -376,7 +517,7 @@ pub fn whole_line(
     line: &[u8],
     tokens: &mut Tokens<'_>,
     bound: usize,
-) -> Result<Option<Event>, ReadError>
+) -> Result<Checked<Event>, ReadError>
     requires most { tokens.old.most ≡ bound }
     requires all { length tokens.old.rest ≡ bound }
     ensures { Gives (all_of (spec.rule reader.now.place reader.now line.now)) tokens.old result tokens.new }

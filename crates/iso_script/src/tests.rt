@@ -2,57 +2,142 @@ use super::*;
 use iso_types::Items;
 use std::alloc::Global;
 
-// The least script of this stage, with each form of statement.
-const FIRST: &[u8] =
-    b"DB2ISO 1\nTABLE T (N INTEGER)\nCONNECT A\nBEGIN\nA: INSERT INTO T VALUES (7)\nA: SELECT N FROM T WITH UR\nA: COMMIT\nEND\n";
+// The least script, and each form of head line in mixed case, with tabs, comments, empty lines and CR LF.
+const LEAST: &[u8] = b"DB2ISO 1\nBEGIN\nEND\n";
 
-// The same with comments, empty lines, CR LF, tabs and small letters; its statements stand in the lines 8, 9 and 11.
 const LOOSE: &[u8] =
-    b"-- a script\r\n\r\ndb2iso\t01\r\ntable t(n integer)\r\n \t \r\n\tConnect a\r\nbegin\r\na:insert into t values(-7)\r\na : select n from t with ur\r\n-- end\r\nA : commit\r\nend\r\n\r\n--";
+    b"-- a script\r\n\r\ndb2iso\t01\r\nconfig cur_commit Disabled\r\n \t \r\nTable t(id Integer not null,b bigint, v varchar(32))\r\nROW T (1, -9223372036854775808, 'it''s 32 bytes, with doubled ''''x''')\r\nrow t(-7,NULL,null)\r\n\tConnect a Ur\r\nTABLE ABCDEFGHIJKLMNOPQRSTUVWXYZ123456 (A INTEGER, B INTEGER, C INTEGER, D INTEGER, E INTEGER, F INTEGER, G INTEGER, H INTEGER)\r\nbegin\r\n-- a body line\r\na : commit ;\r\nA:COMMIT\r\nend\r\n\r\n--";
 
-// Bytes that are no script of this stage, and their first bad line.
-const REFUSED: [(&[u8], u32); 14] = [
-    (b"", 1),
-    (b"DB2ISO 1\nBEGIN\nEND\n", 2),
+// Head lines, and what is wrong with the last of them. The first line and its table are written before them.
+const HEADS: [(&[u8], LineCause); 43] = [
+    (b"TABLE", LineCause::Syntax(6)),
+    (b"TABLE T (ID INTEGER", LineCause::Syntax(20)),
+    (b"TABLE T (ID INTEGER NOT)", LineCause::Syntax(24)),
+    (b"TABLE X (N VARCHAR)", LineCause::Syntax(19)),
+    (b" -- no comment", LineCause::Syntax(2)),
+    (b"CONFIG WINDOW 4X", LineCause::Syntax(16)),
+    (b"CONFIG CUR_COMMIT AVAILABLE", LineCause::Syntax(19)),
+    (b"ROW T ('unfinished)", LineCause::Syntax(8)),
+    (b"EXPIRE A", LineCause::Syntax(1)),
+    (b"CONFIG LOCKLIST 3", LineCause::Limit(17)),
+    (b"CONFIG LOCKLIST 4097", LineCause::Limit(17)),
+    (b"CONFIG LOCKLIST 4", LineCause::Unbuilt),
+    (b"CONFIG LOCKLIST 4096", LineCause::Unbuilt),
+    (b"CONFIG MAXLOCKS 0", LineCause::Limit(17)),
+    (b"CONFIG MAXLOCKS 101", LineCause::Limit(17)),
+    (b"CONFIG MAXLOCKS 1", LineCause::Unbuilt),
+    (b"CONFIG MAXLOCKS 100", LineCause::Unbuilt),
+    (b"CONFIG LOGMAX 1", LineCause::Limit(15)),
+    (b"CONFIG LOGMAX 1000001", LineCause::Limit(15)),
+    (b"CONFIG LOGMAX 2", LineCause::Unbuilt),
+    (b"CONFIG WINDOW -1", LineCause::Limit(15)),
+    (b"CONFIG WINDOW 99999999999999999999", LineCause::Limit(15)),
+    (b"CONFIG WINDOW 1000000", LineCause::Unbuilt),
+    (b"TABLE T (N INTEGER)", LineCause::Duplicate(7)),
+    (b"TABLE X (N INTEGER, n BIGINT)", LineCause::Duplicate(21)),
+    (b"TABLE X (N VARCHAR(33))", LineCause::Limit(20)),
+    (b"TABLE X (N VARCHAR(0))", LineCause::Limit(20)),
     (
-        b"DB2ISO 1\nTABLE T (N INTEGER)\nCONNECT A\nBEGIN\nA: INSERT INTO T VALUES (7)\nA: SELECT N FROM T WITH UR\nA: COMMIT\n",
-        8,
+        b"TABLE ABCDEFGHIJKLMNOPQRSTUVWXYZ1234567 (N INTEGER)",
+        LineCause::Limit(7),
     ),
-    (b"DB2ISO 2\n", 1),
-    (b" -- no comment\n", 1),
-    (b"DB2ISO 1\r", 1),
     (
-        b"DB2ISO 1\nTABLE T (A INTEGER, B INTEGER, C INTEGER, D INTEGER, E INTEGER, F INTEGER, G INTEGER, H INTEGER, I INTEGER)\n",
-        2,
+        b"TABLE X (A INTEGER, B INTEGER, C INTEGER, D INTEGER, E INTEGER, F INTEGER, G INTEGER, H INTEGER, I INTEGER)",
+        LineCause::Limit(1),
     ),
-    (b"DB2ISO 1\nTABLE T (A INTEGER, a INTEGER)\n", 2),
+    (b"CONNECT A RS", LineCause::Unbuilt),
+    (b"CONNECT A RR", LineCause::Unbuilt),
+    (b"ROW NOSUCH (1)", LineCause::Unknown(5)),
     (
-        b"DB2ISO 1\nTABLE T (ABCDEFGHIJKLMNOPQRSTUVWXYZ1234567 INTEGER)\n",
-        2,
+        b"ROW ABCDEFGHIJKLMNOPQRSTUVWXYZ1234567 (1)",
+        LineCause::Unknown(5),
+    ),
+    (b"ROW T ('x')", LineCause::TypeFault(8)),
+    (b"ROW T (1)", LineCause::TypeFault(9)),
+    (b"ROW T (1, 'x', 2)", LineCause::TypeFault(16)),
+    (b"ROW T (NULL, 'x')", LineCause::TypeFault(8)),
+    (b"ROW T (2147483648, 'x')", LineCause::TypeFault(8)),
+    (
+        b"ROW T (1, 'it''s 33 bytes,, with doubled ''''x''')",
+        LineCause::TypeFault(11),
+    ),
+    (b"INDEX I ON T (V)", LineCause::TypeFault(15)),
+    (b"INDEX I ON NOSUCH (V)", LineCause::Unknown(12)),
+    (b"INDEX I ON T (X)", LineCause::Unknown(15)),
+    (b"UNIQUE INDEX I ON T (ID)", LineCause::Unbuilt),
+];
+
+// Whole scripts, with their first bad line and its cause.
+const REFUSED: [(&[u8], u32, LineCause); 18] = [
+    (b"", 1, LineCause::Syntax(1)),
+    (b"DB2ISO 2\n", 1, LineCause::Syntax(8)),
+    (b"DB2ISO 1\r", 1, LineCause::Syntax(9)),
+    (b"DB2ISO 1\nBEGIN", 3, LineCause::Syntax(1)),
+    (b"DB2ISO 1\nBEGIN\nEND\nEND\n", 4, LineCause::Syntax(1)),
+    (
+        b"DB2ISO 1\nCONFIG CUR_COMMIT ON\nCONFIG CUR_COMMIT ON\n",
+        3,
+        LineCause::Duplicate(8),
     ),
     (
-        b"DB2ISO 1\nTABLE T (N INTEGER)\nCONNECT A\nBEGIN\nA: SELECT M FROM T WITH UR\n",
+        b"DB2ISO 1\nCONNECT A\nCONNECT A\n",
+        3,
+        LineCause::Duplicate(9),
+    ),
+    (b"DB2ISO 1\nCONNECT A\nCONNECT B\n", 3, LineCause::Unbuilt),
+    (
+        b"DB2ISO 1\nTABLE T (N INTEGER NOT NULL)\nROW T (5)\nROW T (5)\n UNIQUE INDEX I ON T (N)\n",
         5,
+        LineCause::Duplicate(2),
     ),
     (
-        b"DB2ISO 1\nTABLE T (N INTEGER)\nCONNECT A\nBEGIN\nA: INSERT INTO T VALUES (2147483648)\n",
-        5,
+        b"DB2ISO 1\nTABLE T (B BIGINT)\nROW T (-9223372036854775809)\n",
+        3,
+        LineCause::TypeFault(8),
     ),
     (
-        b"DB2ISO 1\nTABLE T (N INTEGER, M INTEGER)\nCONNECT A\nBEGIN\nA: INSERT INTO T VALUES (1)\n",
-        5,
+        b"DB2ISO 1\nCONNECT A\nBEGIN\nB: COMMIT\n",
+        4,
+        LineCause::Unknown(1),
     ),
     (
-        b"DB2ISO 1\nTABLE T (N INTEGER)\nCONNECT A\nBEGIN\nA: INSERT INTO T VALUES (1)\nEND\n",
-        6,
+        b"DB2ISO 1\nCONNECT A\nBEGIN\nEXPIRE B\n",
+        4,
+        LineCause::Unknown(8),
     ),
     (
-        b"DB2ISO 1\nTABLE T (N INTEGER)\nCONNECT A\nBEGIN\nEND\nEND\n",
-        6,
+        b"DB2ISO 1\nCONNECT A\nBEGIN\nEXPIRE A\n",
+        4,
+        LineCause::Unbuilt,
+    ),
+    (
+        b"DB2ISO 1\nCONNECT A\nBEGIN\nSNAPSHOT\n",
+        4,
+        LineCause::Unbuilt,
+    ),
+    (
+        b"DB2ISO 1\nCONNECT A\nBEGIN\n& A: COMMIT\n",
+        4,
+        LineCause::Unbuilt,
+    ),
+    (
+        b"DB2ISO 1\nCONNECT A\nBEGIN\nA COMMIT\n",
+        4,
+        LineCause::Syntax(3),
+    ),
+    (
+        b"DB2ISO 1\nCONNECT A\nBEGIN\nA: COMMIT;;\n",
+        4,
+        LineCause::Syntax(11),
+    ),
+    (
+        b"DB2ISO 1\nCONNECT A\nBEGIN\nCONNECT B\n",
+        4,
+        LineCause::Syntax(1),
     ),
 ];
 
-// The lines of a script that is read.
+// The numbers of the lines of a script that is read.
 fn numbers(alloc: Global, bytes: &[u8]) -> Result<Items<u32>, ScriptFault> {
     let mut found = Items::new(alloc);
     if bytes.len() > 1048576 {
@@ -72,22 +157,87 @@ fn reads(alloc: Global, bytes: &[u8], lines: &[u32]) -> bool {
     }
 }
 
-fn refuses(alloc: Global, bytes: &[u8], line: u32) -> bool {
+fn refuses(alloc: Global, bytes: &[u8], line: u32, cause: LineCause) -> bool {
     match numbers(alloc, bytes) {
         Ok(_) => false,
-        Err(fault) => fault == ScriptFault::BadLine(line, LineCause::Unbuilt),
+        Err(fault) => fault == ScriptFault::BadLine(line, cause),
+    }
+}
+
+fn joined(alloc: Global, parts: &[&[u8]]) -> Result<Items<u8>, ScriptFault> {
+    let mut whole = Items::new(alloc);
+    for part in parts {
+        for byte in *part {
+            whole.push(*byte)?;
+        }
+    }
+    Ok(whole)
+}
+
+fn refuses_head(alloc: Global, line: &[u8], cause: LineCause) -> bool {
+    let start = b"DB2ISO 1\nTABLE T (ID INTEGER NOT NULL, V VARCHAR(32))\n";
+    match joined(alloc, &[start, line, b"\n"]) {
+        Ok(bytes) => refuses(alloc, bytes.as_slice(), 3, cause),
+        Err(_) => false,
+    }
+}
+
+fn tables(alloc: Global, count: u32) -> Result<Items<u8>, ScriptFault> {
+    let mut bytes = joined(alloc, &[b"DB2ISO 1\n"])?;
+    let names = b"ABCDEFGHIJKLMNOPQ";
+    for (at, name) in names.iter().enumerate() {
+        if at < count as usize {
+            for byte in b"TABLE " {
+                bytes.push(*byte)?;
+            }
+            bytes.push(*name)?;
+            for byte in b" (N INTEGER)\n" {
+                bytes.push(*byte)?;
+            }
+        }
+    }
+    for byte in b"BEGIN\nEND\n" {
+        bytes.push(*byte)?;
+    }
+    Ok(bytes)
+}
+
+fn reads_tables(alloc: Global) -> bool {
+    match tables(alloc, 16) {
+        Ok(bytes) => reads(alloc, bytes.as_slice(), &[]),
+        Err(_) => false,
+    }
+}
+
+fn refuses_tables(alloc: Global) -> bool {
+    match tables(alloc, 17) {
+        Ok(bytes) => refuses(alloc, bytes.as_slice(), 18, LineCause::Limit(1)),
+        Err(_) => false,
     }
 }
 
 #[test]
 fn scripts_are_read(rt: HostRuntime) {
-    assert!(rt; reads(rt.alloc(), FIRST, &[5, 6, 7]));
-    assert!(rt; reads(rt.alloc(), LOOSE, &[8, 9, 11]));
+    assert!(rt; reads(rt.alloc(), LEAST, &[]));
+    assert!(rt; reads(rt.alloc(), LOOSE, &[13, 14]));
+}
+
+#[test]
+fn head_lines_are_refused_with_cause_and_place(rt: HostRuntime) {
+    for (line, cause) in HEADS {
+        assert!(rt; refuses_head(rt.alloc(), line, cause), "{line:?}");
+    }
 }
 
 #[test]
 fn others_are_refused_at_their_first_bad_line(rt: HostRuntime) {
-    for (bytes, line) in REFUSED {
-        assert!(rt; refuses(rt.alloc(), bytes, line), "line {line}");
+    for (bytes, line, cause) in REFUSED {
+        assert!(rt; refuses(rt.alloc(), bytes, line, cause), "line {line}");
     }
+}
+
+#[test]
+fn sixteen_tables_are_the_most(rt: HostRuntime) {
+    assert!(rt; reads_tables(rt.alloc()));
+    assert!(rt; refuses_tables(rt.alloc()));
 }

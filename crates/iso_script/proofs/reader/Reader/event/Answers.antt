@@ -1,7 +1,13 @@
-use Rattle.std.proofs.Common.{refl}
-use Rattle.iso_script.proofs.ReadLaws.{none_fits}
+use Rattle.std.proofs.Common.{refl, Ok, Err}
+use Rattle.iso_script.proofs.ReadLaws.{judged, is_event, is_wrong}
 use Rattle.iso_script.proofs.reader.Reader.event.Goals as goal
 
-pub returns-in-Ok-None : goal.returns-in-Ok-None
-returns-in-Ok-None c =
-    (refl, (refl, none_fits c.args.self.now c.args.line.now c.args.found.now c.in-Ok-None.field-0 c.requires c.in-Ok-None.field-0-is c.in-Ok-None.ensures))
+pub returns-in-Ok-verdict : goal.returns-in-Ok-verdict
+returns-in-Ok-verdict c =
+    is_event c.args.self.now c.args.line.now c.in-Ok-verdict.event (Ok c.in-Ok-verdict.event) refl
+    (judged c.args.self.now c.args.line.now c.args.found.now c.in-Ok.said (Ok c.in-Ok-verdict.event) c.requires.same c.in-Ok-verdict.ensures c.in-Ok.ensures)
+
+pub returns-in-Err : goal.returns-in-Err
+returns-in-Err c =
+    (refl, is_wrong c.args.self.now c.args.line.now c.in-Err.cause (Err c.in-Err.cause) refl
+    (judged c.args.self.now c.args.line.now c.args.found.now c.in-Ok.said (Err c.in-Err.cause) c.requires.same c.in-Err.ensures c.in-Ok.ensures))

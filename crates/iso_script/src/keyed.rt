@@ -1,0 +1,272 @@
+//! What the lines ROW and INDEX stand for, and what is wrong with them: rows, keys and the indexes on them.
+
+ghost use Rattle.std.specs.Prelude.{◌≡◌, length, IfOk};
+ghost use Rattle.iso_types.specs.Head.{is_null as null};
+ghost use Rattle.iso_types.specs.Value.{value_eq};
+ghost use Rattle.iso_sql.specs.Names.{names_of, place_in as placed};
+ghost use Rattle.iso_sql.specs.Rows.{stored_row as stored};
+ghost use Rattle.iso_script.specs.Keyed as spec;
+
+use crate::event::Event;
+use crate::events::whole_line;
+use crate::naming::{declared_fault, has_index, named};
+use crate::words::{IndexWords, RowWords};
+use iso_grammar::{Cause, Checked, Fault, Token, fault_at, least, unless};
+use iso_sql::{Scope, scope_of, stored_fault, stored_row, table_of};
+use iso_types::{Column, FirstRow, Head, IndexDef, Memory, TableId, Value};
+use std::alloc::Global;
+
+fn is_null(value: &Value) -> bool
+    ensures { result ≡ null value.now }
+{
+    matches!(value, Value::Null)
+}
+
+#[tactic(auto, unfolding(iso_types::specs::Value::value_eq))]
+fn is_equal(a: &Value, b: &Value) -> bool
+    ensures { result ≡ value_eq a.now b.now }
+{
+    *a == *b
+}
+
+fn is_same_key(a: &Value, b: &Value) -> bool
+    ensures { result ≡ spec.is_same_key a.now b.now }
+{
+    !is_null(a) && is_equal(a, b)
+}
+
+fn key_at(column: u8, row: &[Value]) -> Value
+    ensures { result ≡ spec.key_at column row.now }
+{
+    match row.get(column as usize) {
+        Some(value) => *value,
+        None => Value::Null,
+    }
+}
+
+fn is_own(first: &FirstRow, table: TableId, column: u8, value: &Value) -> bool
+    ensures { result ≡ spec.has_this table column value.now first.now }
+{
+    first.table.0 == table.0 && is_same_key(value, &key_at(column, first.row.as_slice()))
+}
+
+fn has_key(table: TableId, column: u8, value: &Value, rows: &[FirstRow]) -> bool
+    ensures { result ≡ spec.has_key table column value.now rows.now }
+{
+    rows.iter().any(|first| is_own(first, table, column, value))
+}
+
+fn repeats_key(rows: &[FirstRow], table: TableId, row: &[Value], index: &IndexDef) -> bool
+    ensures { result ≡ spec.repeats_key rows.now table row.now index.now }
+{
+    index.unique
+        && (index.table.0 == table.0
+            && has_key(table, index.column, &key_at(index.column, row), rows))
+}
+
+#[tactic(auto, unfolding(crate::specs::Keyed::repeats_keys))]
+fn repeats_keys(head: &Head, table: TableId, row: &[Value]) -> bool
+    ensures { result ≡ spec.repeats_keys head.now table row.now }
+{
+    let rows = head.rows.as_slice();
+    head.indexes
+        .as_slice()
+        .iter()
+        .any(|index| repeats_key(rows, table, row, index))
+}
+
+fn own_rows(table: TableId, mut rows: &[FirstRow]) -> usize
+    ensures { result ≡ length (spec.own_rows table rows.entry.now) }
+{
+    let mut count = 0;
+    while let [first, rest @ ..] = rows {
+        if first.table.0 == table.0 {
+            count += 1;
+        }
+        rows = rest;
+    }
+    count
+}
+
+#[tactic(auto, unfolding(crate::specs::Keyed::full_fault))]
+fn full_fault(head: &Head, table: TableId) -> Option<Fault>
+    ensures { result ≡ spec.full_fault head.now table }
+{
+    if own_rows(table, head.rows.as_slice()) >= 65536 {
+        return whole_line();
+    }
+    None
+}
+
+fn values_fault(
+    head: &Head,
+    scope: &Scope<'_>,
+    words: RowWords,
+    table: TableId,
+    values: &[Token],
+    row: &[Value],
+) -> Option<Fault>
+    requires { row.now ≡ stored (names_of scope.now).line values.now }
+    ensures { result ≡ spec.values_fault head.now (names_of scope.now).line words.first table (names_of scope.now).columns values.now words.close }
+{
+    let twice = unless(
+        !repeats_keys(head, table, row),
+        words.first,
+        Cause::Duplicate,
+    );
+    let fit = stored_fault(true, scope.line, scope.columns, values, words.close);
+    least(twice, least(full_fault(head, table), fit))
+}
+
+fn row_fault(
+    head: &Head,
+    scope: &Scope<'_>,
+    words: RowWords,
+    table: TableId,
+    values: &[Token],
+    row: &[Value],
+) -> Option<Fault>
+    requires { row.now ≡ stored (names_of scope.now).line values.now }
+    ensures { result ≡ spec.row_fault head.now (names_of scope.now) words.first words.table table values.now words.close }
+{
+    if scope.known {
+        values_fault(head, scope, words, table, values, row)
+    } else {
+        fault_at(words.table, Cause::Unknown)
+    }
+}
+
+/// A ROW line with these values.
+#[tactic(auto, unfolding(crate::specs::Keyed::rowed, iso_sql::specs::Names::table_names))]
+pub fn rowed(
+    alloc: Global,
+    head: &Head,
+    line: &[u8],
+    words: RowWords,
+    values: &[Token],
+) -> Result<Checked<Event>, Memory>
+    ensures { IfOk result (λ e. e ≡ spec.rowed head.now line.now words.first words.table values.now words.close) }
+{
+    let row = stored_row(alloc, line, values)?;
+    let table = table_of(head, line, words.table);
+    let scope = scope_of(head, line, words.table);
+    let fault = row_fault(head, &scope, words, table, values, row.as_slice());
+    Ok(Checked {
+        value: Event::Row(FirstRow { table, row }),
+        fault,
+    })
+}
+
+fn has_twice(table: TableId, column: u8, mut rows: &[FirstRow]) -> bool
+    ensures { result ≡ spec.has_twice table column rows.entry.now }
+{
+    while let [first, rest @ ..] = rows {
+        let key = key_at(column, first.row.as_slice());
+        if first.table.0 == table.0 && has_key(table, column, &key, rest) {
+            return true;
+        }
+        rows = rest;
+    }
+    false
+}
+
+fn own_indexes(table: TableId, mut indexes: &[IndexDef]) -> usize
+    ensures { result ≡ length (spec.own_indexes table indexes.entry.now) }
+{
+    let mut count = 0;
+    while let [index, rest @ ..] = indexes {
+        if index.table.0 == table.0 {
+            count += 1;
+        }
+        indexes = rest;
+    }
+    count
+}
+
+#[tactic(auto, unfolding(crate::specs::Keyed::crowd_fault))]
+fn crowd_fault(head: &Head, table: TableId) -> Option<Fault>
+    ensures { result ≡ spec.crowd_fault head.now table }
+{
+    if head.indexes.len() >= 32 || own_indexes(table, head.indexes.as_slice()) >= 4 {
+        return whole_line();
+    }
+    None
+}
+
+fn required_fault(found: Option<Column>, column: Token) -> Option<Fault>
+    ensures { result ≡ spec.required_fault found column }
+{
+    match found {
+        Some(found) => unless(found.required, column, Cause::TypeFault),
+        None => fault_at(column, Cause::Unknown),
+    }
+}
+
+fn keys_fault(head: &Head, words: IndexWords, table: TableId, place: Option<u8>) -> Option<Fault>
+    ensures { result ≡ spec.keys_fault head.now words table place }
+{
+    match place {
+        Some(column) => {
+            let twice = words.unique && has_twice(table, column, head.rows.as_slice());
+            unless(!twice, words.first, Cause::Duplicate)
+        }
+        None => None,
+    }
+}
+
+fn on_fault(head: &Head, words: IndexWords, table: TableId, scope: &Scope<'_>) -> Option<Fault>
+    ensures { result ≡ spec.on_fault head.now words table (names_of scope.now) }
+{
+    let twice = keys_fault(head, words, table, scope.column_place(words.column));
+    let column = required_fault(scope.column_of(words.column), words.column);
+    least(twice, least(crowd_fault(head, table), column))
+}
+
+fn unknown_fault(head: &Head, table: Token) -> Option<Fault>
+    ensures { result ≡ spec.unknown_fault head.now table }
+{
+    let crowd = if head.indexes.len() >= 32 {
+        whole_line()
+    } else {
+        None
+    };
+    least(crowd, fault_at(table, Cause::Unknown))
+}
+
+fn place_fault(head: &Head, words: IndexWords, table: TableId, scope: &Scope<'_>) -> Option<Fault>
+    ensures { result ≡ spec.place_fault head.now words table (names_of scope.now) }
+{
+    if scope.known {
+        on_fault(head, words, table, scope)
+    } else {
+        unknown_fault(head, words.table)
+    }
+}
+
+fn place_in(place: Option<u8>) -> u8
+    ensures { result ≡ placed place }
+{
+    match place {
+        Some(place) => place,
+        None => 0,
+    }
+}
+
+/// An INDEX line.
+#[tactic(auto, unfolding(crate::specs::Keyed::indexed))]
+pub fn indexed(head: &Head, line: &[u8], words: IndexWords) -> Checked<Event>
+    ensures { result ≡ spec.indexed head.now line.now words }
+{
+    let scope = scope_of(head, line, words.table);
+    let table = table_of(head, line, words.table);
+    let own = declared_fault(has_index(head, line, words.name), line, words.name);
+    Checked {
+        value: Event::Index(IndexDef {
+            name: named(line, words.name),
+            table,
+            column: place_in(scope.column_place(words.column)),
+            unique: words.unique,
+        }),
+        fault: least(own, place_fault(head, words, table, &scope)),
+    }
+}
