@@ -6,3 +6,5 @@ pub mod Steps
 pub mod ScanSteps
 pub mod StatementLaws
 pub mod TextLaws
+pub mod SoundFacts
+pub mod SoundConditions
