@@ -8,3 +8,4 @@ pub mod StatementLaws
 pub mod TextLaws
 pub mod SoundFacts
 pub mod SoundConditions
+pub mod SoundRows
