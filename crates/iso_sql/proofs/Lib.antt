@@ -9,3 +9,5 @@ pub mod TextLaws
 pub mod SoundFacts
 pub mod SoundConditions
 pub mod SoundRows
+pub mod SoundSets
+pub mod SoundStatements

@@ -1,6 +1,6 @@
 -- A condition without a fault is sound.
 use Rattle.std.proofs.Common.{◌≡◌, ◌≤◌, ◌+◌, ℕ, zero, suc, Bool, true, false, cond, List, [], ◌∷◌, ◌++◌, length, length-append, Option, Some, None, refl, sym, ap, subst, ◌∙◌, ◌⊎◌, inl, inr, arith}
-use Rattle.std.specs.Prelude.{◌&&◌, fold, slice_get, is_some, nat_le, nat_lt, not, ℤ}
+use Rattle.std.specs.Prelude.{◌&&◌, fold, nat_le, nat_lt, not, ℤ}
 use Rattle.std.specs.Option.{option_map}
 use Rattle.std.proofs.lemmas.Option.{slice_get_cases, slice_get_within}
 use Rattle.std.proofs.lemmas.Bool.{le-leb, lt-ltb}
@@ -10,8 +10,6 @@ use Rattle.iso_types.specs.declared.head.ColumnKind.TheVariants.{Bigint, Integer
 use Rattle.iso_types.specs.declared.value.Value.{Value}
 use Rattle.iso_types.specs.declared.value.Value.TheVariants as value
 use Rattle.iso_grammar.specs.declared.fault.Cause.TheVariants.{Limit, TypeFault}
-use Rattle.iso_grammar.specs.declared.fault.Checked.{Checked}
-use Rattle.iso_grammar.specs.declared.fault.Fault.{Fault}
 use Rattle.iso_grammar.specs.declared.token.Kind.{Kind}
 use Rattle.iso_grammar.specs.declared.token.Kind.TheVariants as k
 use Rattle.iso_grammar.specs.declared.token.Token.{Token}
@@ -27,13 +25,13 @@ use Rattle.iso_sql.specs.declared.statement.Condition.{Condition, fold-roll-Cond
 use Rattle.iso_sql.specs.declared.statement.Condition.TheOpen.{Condition-F}
 use Rattle.iso_sql.specs.declared.statement.Condition.TheVariants as c
 use Rattle.iso_sql.specs.declared.statement.Op.{Op}
-use Rattle.iso_sql.specs.Names.{Names, column_of, column_place, name_fault, place_in}
+use Rattle.iso_sql.specs.Names.{Names, column_place, name_fault, place_in}
 use Rattle.iso_sql.specs.Rows.{or_null, stored_value}
 use Rattle.iso_sql.specs.Sound.{comparisons, comparisons_at, is_comparable, is_number, is_sound_condition, is_typed, of_kind, sound_at}
 use Rattle.iso_sql.specs.Actions as act
 use Rattle.iso_sql.specs.Actions.{any, both, count_fault, has_kind, hidden, is_value, joined, kind_fault, limited, limited_value, literal_fault, max_depth, negated, nested, unfiltered}
 use Rattle.iso_sql.specs.Conditions as gs
-use Rattle.iso_sql.proofs.SoundFacts.{and_made, some_same, no_some, no_none, no_way, unless_none, at_none, least_none, some_there, declared, column_is, kind_made}
+use Rattle.iso_sql.proofs.SoundFacts.{and_made, some_same, no_some, no_way, unless_none, at_none, least_none, some_there, declared, column_is, kind_made}
 
 -- ---- literals
 
@@ -181,16 +179,22 @@ module _ (names : Names) where
 
   between-good : (column low high : Token) → IsLiteral low → IsLiteral high → Good names.columns (act.between names column low high)
   unfolding act.between
-  between-good column low high i j = (le_by _ 1 1 (between-count _ _ _) (omega arith), λ e.
-      let l = least_none (name_fault names column) (least (literal_fault names column low) (literal_fault names column high)) e in
-      let m = least_none (literal_fault names column low) (literal_fault names column high) l.1 in
-      between-typed names.columns _ _ _ ∙ and_made _ _ (typed_literal names column low i l.0 m.0) (typed_literal names column high j l.0 m.1))
+  between-good column low high i j = (
+    le_by _ 1 1 (between-count _ _ _) (omega arith),
+    λ e.
+        let l = least_none (name_fault names column) (least (literal_fault names column low) (literal_fault names column high)) e in
+        let m = least_none (literal_fault names column low) (literal_fault names column high) l.1 in
+        between-typed names.columns _ _ _ ∙ and_made _ _ (typed_literal names column low i l.0 m.0) (typed_literal names column high j l.0 m.1),
+  )
 
   null-good : (column : Token) → Good names.columns (act.is_null names column)
   unfolding act.is_null
-  null-good column = (le_by _ 1 1 (null-count _) (omega arith), λ e.
-      let d = declared names column e in
-      null-typed names.columns _ ∙ ap (λ (o : Option ℕ). nat_lt (place_in o) (length names.columns)) d.2 ∙ lt-ltb d.0 (length names.columns) (slice_get_within names.columns d.0 d.1 d.3))
+  null-good column = (
+    le_by _ 1 1 (null-count _) (omega arith),
+    λ e.
+        let d = declared names column e in
+        null-typed names.columns _ ∙ ap (λ (o : Option ℕ). nat_lt (place_in o) (length names.columns)) d.2 ∙ lt-ltb d.0 (length names.columns) (slice_get_within names.columns d.0 d.1 d.3),
+  )
 
   negated-good : (w : Option Token) (x : Found) → Good names.columns x → Good names.columns (negated w x)
   negated-good None x h = h

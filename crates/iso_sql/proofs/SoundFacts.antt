@@ -1,6 +1,6 @@
 -- What follows where no fault is found.
-use Rattle.std.proofs.Common.{◌≡◌, ◌≤◌, ◌<◌, ℕ, Bool, true, false, cond, List, [], ◌∷◌, length, map, Option, Some, None, refl, sym, ap, subst, ◌∙◌, inl, inr}
-use Rattle.std.specs.Prelude.{◌&&◌, ◌||◌, find, slice_get, is_some, nat_lt, nat_le}
+use Rattle.std.proofs.Common.{◌≡◌, ℕ, Bool, true, false, cond, List, [], ◌∷◌, length, Option, Some, None, refl, sym, ap, subst, ◌∙◌, inl, inr}
+use Rattle.std.specs.Prelude.{◌&&◌, find, slice_get, is_some}
 use Rattle.std.specs.Option.{option_map_or}
 use Rattle.std.proofs.lemmas.Option.{slice_get_within}
 use Rattle.std.proofs.lemmas.Bool.{lt-ltb}
@@ -14,7 +14,7 @@ use Rattle.iso_grammar.specs.declared.fault.Fault.{Fault}
 use Rattle.iso_grammar.specs.declared.token.Token.{Token}
 use Rattle.iso_grammar.specs.Faults.{at, is_sooner, least, unless}
 use Rattle.iso_grammar.proofs.Choices.{decide}
-use Rattle.iso_sql.specs.Names.{Names, column_in, column_of, column_place, column_places, columns_in, gives, is_column_at, is_table_at, name_fault, place_in, table_fault, table_in, table_names, table_of, table_place, table_places}
+use Rattle.iso_sql.specs.Names.{Names, column_in, column_of, column_place, column_places, columns_in, gives, is_column_at, is_table_at, name_fault, table_fault, table_in, table_names, table_of, table_place, table_places}
 use Rattle.iso_sql.specs.Sound.{columns_of, of_kind}
 
 pub and_made : (a b : Bool) → a ≡ true → b ≡ true → (a && b) ≡ true

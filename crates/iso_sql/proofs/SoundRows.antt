@@ -1,5 +1,5 @@
 -- Lists of columns and rows without a fault are sound.
-use Rattle.std.proofs.Common.{◌≡◌, ◌≤◌, ◌<◌, ◌+◌, ℕ, zero, suc, Bool, true, false, cond, List, [], ◌∷◌, ◌++◌, length, length-append, map, Option, Some, None, refl, sym, ap, subst, ◌∙◌, ◌⊎◌, inl, inr, arith}
+use Rattle.std.proofs.Common.{◌≡◌, ◌≤◌, ◌+◌, ℕ, suc, Bool, true, false, cond, List, [], ◌∷◌, ◌++◌, length, length-append, map, Option, Some, None, refl, sym, ap, subst, ◌∙◌, ◌⊎◌, inl, inr, arith}
 use Rattle.std.specs.Prelude.{◌&&◌, ◌||◌, ◌==◌, if◌then◌else◌, not, slice_get, nat_lt}
 use Rattle.std.specs.List.{list_all, list_any, range_with_len}
 use Rattle.std.specs.Option.{option_map_or}
@@ -14,21 +14,19 @@ use Rattle.iso_types.specs.declared.value.Value.{Value}
 use Rattle.iso_types.specs.declared.value.Value.TheVariants as value
 use Rattle.iso_grammar.specs.declared.fault.Cause.TheVariants.{Duplicate, TypeFault, Unknown}
 use Rattle.iso_grammar.specs.declared.fault.Checked.{Checked}
-use Rattle.iso_grammar.specs.declared.fault.Fault.{Fault}
 use Rattle.iso_grammar.specs.declared.token.Token.{Token}
-use Rattle.iso_grammar.specs.Faults.{at, checked, least}
+use Rattle.iso_grammar.specs.Faults.{at, checked}
 use Rattle.iso_grammar.specs.Values.{value_of}
 use Rattle.iso_grammar.proofs.Choices.{decide}
 use Rattle.iso_sql.specs.declared.list.Chosen.{Chosen}
 use Rattle.iso_sql.specs.declared.list.Chosen.TheVariants as chosen
-use Rattle.iso_sql.specs.declared.statement.Items2.{Items2}
 use Rattle.iso_sql.specs.declared.statement.Items2.TheVariants as i
 use Rattle.iso_sql.specs.Names.{Names, column_place}
-use Rattle.iso_sql.specs.Rows.{fits, or_null, placed_row, placed_value, stored_fault, stored_row, stored_value, stores}
+use Rattle.iso_sql.specs.Rows.{fits, or_null, placed_value, stored_fault, stored_row, stored_value, stores}
 use Rattle.iso_sql.specs.Sound.{are_apart, are_sound_items, are_stored}
 use Rattle.iso_sql.specs.Actions.{and_column, columns_at, has_place, items_of, listed, row_of}
 use Rattle.iso_sql.specs.Statements as gs
-use Rattle.iso_sql.proofs.SoundFacts.{and_made, some_same, no_some, no_none, no_way, at_none, least_none, there, column_there}
+use Rattle.iso_sql.proofs.SoundFacts.{and_made, some_same, no_way, at_none, least_none, there, column_there}
 
 pub and_parts : (a b : Bool) → (a && b) ≡ true → (a ≡ true) × (b ≡ true)
 and_parts true b e = (refl, e)
