@@ -6,3 +6,8 @@ pub mod Steps
 pub mod ScanSteps
 pub mod StatementLaws
 pub mod TextLaws
+pub mod SoundFacts
+pub mod SoundConditions
+pub mod SoundRows
+pub mod SoundSets
+pub mod SoundStatements

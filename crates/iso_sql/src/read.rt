@@ -1,9 +1,10 @@
 //! Reads the text of a statement.
 
-ghost use Rattle.std.specs.Prelude.{◌≡◌, ◌≤◌, ◌<◌, ◌^◌, length, Ok, Err, IfOk};
+ghost use Rattle.std.specs.Prelude.{◌≡◌, ◌≤◌, ◌<◌, ◌^◌, length, Ok, Err, IfOk, true};
 ghost use Rattle.iso_grammar.specs.Grammar as grammar;
 ghost use Rattle.iso_grammar.specs.Lex.{tokens};
 ghost use Rattle.iso_grammar.specs.Reading.{Gives, all_of};
+ghost use Rattle.iso_sql.specs.Sound.{is_sound_statement};
 ghost use Rattle.iso_sql.specs.StatementReading as reading;
 ghost use Rattle.iso_sql.specs.Statements as rule;
 ghost use Rattle.iso_sql.specs.Texts as spec;
@@ -113,11 +114,13 @@ fn judged(alloc: Global, head: &Head, text: &[u8], found: &[Token]) -> Result<St
 /// second token. `Limit`: a number over 64 bits or a text over 32 bytes in a comparison, the number of a sum, a savepoint's
 /// name over 32 bytes, the 33rd parenthesis inside others, the 65th comparison. `Unbuilt`: a statement without a fault that
 /// this stage of the project does not run. `Memory`: want of memory.
+/// A statement that is read is sound: its tables and columns are the head's, and it meets the type rules and limits.
 /// Cost: one pass over the text, and a look-up for each name. The places are this project's own.
 pub fn read_statement(alloc: Global, head: &Head, text: &[u8]) -> Result<Statement, SqlFault>
     requires { length text.now ≤ 1048576 }
     ensures answer { spec.Answers head.now text.now result }
     ensures only { (x : meant.Statement) → spec.Reads head.now text.now x → spec.IsOrMemory result (Ok x) }
+    ensures sound { IfOk result (λ s. is_sound_statement head.now s ≡ true) }
     ensures place { (e : told.SqlFault) → spec.IsTold e → spec.Refuses head.now text.now e → spec.IsOrMemory result (Err e) }
 {
     let found = tokens_of(alloc, text)?;
