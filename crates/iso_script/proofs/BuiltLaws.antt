@@ -44,7 +44,10 @@ use Rattle.iso_types.specs.declared.head.IndexDef.{IndexDef}
 use Rattle.iso_script.proofs.RowLaws.{named-fits, rows-grow, stored-fits}
 use Rattle.iso_script.specs.Rules.{rule}
 use Rattle.iso_script.specs.Reading.{fits, ReadsFrom, reads, start, is_ended}
-use Rattle.iso_script.specs.Statements as gq
+use Rattle.iso_sql.specs.Statements as gq
+use Rattle.iso_sql.specs.Unbuilt as sql
+use Rattle.iso_sql.proofs.SoundStatements.{statement-sound}
+use Rattle.iso_types.specs.declared.head.Isolation.TheVariants as level
 use Rattle.iso_script.specs.Unbuilt.{is_built, is_built_asked}
 
 abbrev is_before : Place → Bool
@@ -313,8 +316,23 @@ connect-sound s n line a l e h is built p =
     one_more : (d : ConnDef) → (length s.script.head.conns == 0) ≡ true → length (s.script.head.conns ++ d ∷ []) ≤ 1
     one_more d e = let z : length s.script.head.conns ≡ 0 = eqb-true (length s.script.head.conns) 0 e in omega (arith, length-append s.script.head.conns (d ∷ []))
 
-statement-sound : (head : Head) (line : List ℕ) (ts : List Token) (x : Checked Statement) → gq.statement head line ts x → x.fault ≡ None → is_sound_statement head x.value ≡ true
-statement-sound head line ts x w none = ap (λ (c : Checked Statement). is_sound_statement head c.value) w.5.1
+-- what iso_sql takes for built runs
+built-runs : (x : Statement) → sql.is_built x ≡ true → is_built_statement x ≡ true
+built-runs (statement.Select t items cond (Some level.Ur)) e = refl
+built-runs (statement.Select t items cond (Some level.Cs)) e = absurd (false_true e)
+built-runs (statement.Select t items cond (Some level.Rs)) e = absurd (false_true e)
+built-runs (statement.Select t items cond (Some level.Rr)) e = absurd (false_true e)
+built-runs (statement.Select t items cond None) e = absurd (false_true e)
+built-runs (statement.Insert t row) e = refl
+built-runs (statement.Update t sets cond l) e = absurd (false_true e)
+built-runs (statement.Delete t cond l) e = absurd (false_true e)
+built-runs statement.Commit e = refl
+built-runs statement.Rollback e = absurd (false_true e)
+built-runs (statement.RollbackTo n) e = absurd (false_true e)
+built-runs (statement.Savepoint n) e = absurd (false_true e)
+built-runs (statement.LockTable t m) e = absurd (false_true e)
+built-runs (statement.SetIsolation l) e = absurd (false_true e)
+built-runs (statement.SetWait b) e = absurd (false_true e)
 
 statement_line-sound : (s : Reader) (n : ℕ) (line : List ℕ) (free : Bool) (a : Token) (ts : List Token) (x : Checked Statement) (e : Event) → Sound s → s.place ≡ place.Body → is_built s e ≡ true → gq.statement s.script.head line ts x
     → checked e None ≡ stated s.script.head line free a x → Sound (advance s n e)
@@ -322,10 +340,10 @@ unfolding stated
 statement_line-sound s n line free a ts x e h is built w p =
     let v : e ≡ (stated s.script.head line free a x).value = value_is (checked e None) (stated s.script.head line free a x) p in
     let none : least (connection_fault s.script.head line a) x.fault ≡ None = sym (fault_is (checked e None) (stated s.script.head line free a x) p) in
-    let b : (not free && (nat_lt (length s.script.lines) 1000 && is_built_statement x.value)) ≡ true = ap (is_built s) (sym v) ∙ built in
-    let more : (nat_lt (length s.script.lines) 1000 && is_built_statement x.value) ≡ true = and_right (not free) _ b in
+    let b : (not free && (nat_lt (length s.script.lines) 1000 && sql.is_built x.value)) ≡ true = ap (is_built s) (sym v) ∙ built in
+    let more : (nat_lt (length s.script.lines) 1000 && sql.is_built x.value) ≡ true = and_right (not free) _ b in
     subst (λ (z : Event). Sound (advance s n z)) (sym v) (subst (λ (f : Bool). Sound (advance s n (event.Asked (Some (connection_of s.script.head line a)) f (what.Statement x.value)))) (sym (is_false free (and_left (not free) _ b)))
-    (asked s n (connection_of s.script.head line a).0 x.value h is (connection_there s.script.head line a (no_least_left (connection_fault s.script.head line a) x.fault none)) (and_right (nat_lt (length s.script.lines) 1000) _ more)
+    (asked s n (connection_of s.script.head line a).0 x.value h is (connection_there s.script.head line a (no_least_left (connection_fault s.script.head line a) x.fault none)) (built-runs x.value (and_right (nat_lt (length s.script.lines) 1000) _ more))
     (statement-sound s.script.head line ts x w (no_least_right (connection_fault s.script.head line a) x.fault none)) (and_left (nat_lt (length s.script.lines) 1000) _ more)))
 
 end-sound : (s : Reader) (n : ℕ) (e : Event) → Sound s → s.place ≡ place.Body → is_built s e ≡ true → checked e None ≡ plain event.End → Sound (advance s n e)

@@ -1,14 +1,11 @@
 -- Each line is read by its rule, exactly.
 use Rattle.std.proofs.Common.{◌≡◌, ℕ, Bool, true, false, List, [], ◌∷◌, Option, Some, None, Result, refl, ◌⊎◌}
-use Rattle.iso_types.specs.declared.head.Head.{Head}
 use Rattle.iso_types.specs.declared.head.Isolation.TheVariants as level
-use Rattle.iso_sql.specs.declared.statement.Statement.TheVariants as st
 use Rattle.iso_grammar.specs.declared.fault.Checked.{Checked}
 use Rattle.iso_grammar.specs.declared.token.Kind.{Kind}
 use Rattle.iso_grammar.specs.declared.token.Kind.TheVariants as k
 use Rattle.iso_grammar.specs.declared.token.Token.{Token}
 use Rattle.iso_grammar.specs.declared.tokens.ReadError.{ReadError}
-use Rattle.iso_grammar.specs.Faults.{checked}
 use Rattle.iso_grammar.specs.Grammar as g
 use Rattle.iso_grammar.specs.Kinds.{Kinds}
 use Rattle.iso_grammar.specs.Reading.{Input, Gives, all_of}
@@ -23,11 +20,12 @@ use Rattle.iso_script.specs.declared.reader.Reader.{Reader}
 use Rattle.iso_script.specs.declared.words.SettingName.{SettingName}
 use Rattle.iso_script.specs.declared.words.SettingName.TheVariants as name
 use Rattle.iso_script.specs.declared.words.TypeWords.TheVariants as ty
-use Rattle.iso_script.specs.Statements as gq
+use Rattle.iso_sql.specs.StatementReading.{goes_words}
+use Rattle.iso_sql.proofs.StatementLaws.{statement-reads}
 use Rattle.iso_script.specs.Rules as gs
 use Rattle.iso_script.specs.Events.{configured, declared, connected, stated, expired, pictured, plain}
 use Rattle.iso_script.specs.Keyed.{index_words, rowed, indexed}
-use Rattle.iso_script.specs.RuleReading.{flag, number, first_line, switch, switched, numbered, setting_words, config_line, varchar, type_words, not_null, column, columns, table_line, literal, literals, row_line, index_on, index_line, isolation, connect_line, begin_line, statement, statement_line, expire_line, snapshot_line, end_line, head_line, body_line, rule}
+use Rattle.iso_script.specs.RuleReading.{flag, number, first_line, switch, switched, numbered, setting_words, config_line, varchar, type_words, not_null, column, columns, table_line, literal, literals, row_line, index_on, index_line, isolation, connect_line, begin_line, statement_line, expire_line, snapshot_line, end_line, head_line, body_line, rule}
 
 flag-reads : (kind : Kind) → Reads (λ n. flag kind) (gs.flag kind) (kind ∷ []) (kind ∷ []) true
 unfolding flag
@@ -126,11 +124,7 @@ begin_line-reads : Reads (λ n. begin_line) gs.begin_line (k.Begin ∷ []) [] fa
 unfolding begin_line
 begin_line-reads = then (word k.Begin) (λ _. done (plain event.Begin)) refl
 
-statement-reads : (head : Head) (line : List ℕ) → Reads (statement head line) (gq.statement head line) (k.Commit ∷ []) [] false
-unfolding statement
-statement-reads head line = then (word k.Commit) (λ _. done (checked st.Commit None)) refl
-
-statement_line-reads : (s : Reader) (line : List ℕ) → Reads (statement_line s line) (gs.statement_line s line) (k.Ampersand ∷ k.Name ∷ []) (k.Semicolon ∷ []) false
+statement_line-reads : (s : Reader) (line : List ℕ) → Reads (statement_line s line) (gs.statement_line s line) (k.Ampersand ∷ k.Name ∷ []) (k.Semicolon ∷ goes_words) false
 unfolding statement_line
 statement_line-reads s line =
     then (flag-reads k.Ampersand) (λ free. then (word k.Name) (λ a. then (word k.Colon) (λ _. then (statement-reads s.script.head line) (λ x. then (flag-reads k.Semicolon) (λ _.

@@ -144,11 +144,12 @@ columns-new line so_far before (c ∷ cs) e =
     let r = columns-new line (least so_far (column_fault line before c)) (before ++ column_of line c ∷ []) cs e in
     let own : column_fault line before c ≡ None = no_least_right so_far (column_fault line before c) r.0 in
     let name_ok = no_least_left (declared_fault (list_any (λ d. gives line c.name d.name) before) line c.name) (kind_fault line c.kind) own in
-    let kind_ok = no_least_right (declared_fault (list_any (λ d. gives line c.name d.name) before) line c.name) (kind_fault line c.kind) own in
-    (no_least_left so_far (column_fault line before c) r.0,
-    and_from (not (list_any (text_eq (named line c.name)) (map name_in_column before))) (are_new (map name_in_column before ++ named line c.name ∷ []) (map name_in_column (map (column_of line) cs))) (ap not (fresh name_in_column line c.name before name_ok))
-    (ap (λ z. are_new z (map name_in_column (map (column_of line) cs))) (sym (map-snoc name_in_column before (column_of line c))) ∙ r.1),
-    and_from (is_sound_column (column_of line c)) (list_all is_sound_column (map (column_of line) cs)) (and_from (nat_le (length (named line c.name)) 32) (is_sound_kind (kind_of line c.kind)) (named-short line c.name) (kind-sound line c.kind kind_ok)) r.2)
+    let kind_ok = no_least_right (declared_fault (list_any (λ d. gives line c.name d.name) before) line c.name) (kind_fault line c.kind) own in (
+      no_least_left so_far (column_fault line before c) r.0,
+      and_from (not (list_any (text_eq (named line c.name)) (map name_in_column before))) (are_new (map name_in_column before ++ named line c.name ∷ []) (map name_in_column (map (column_of line) cs))) (ap not (fresh name_in_column line c.name before name_ok))
+          (ap (λ z. are_new z (map name_in_column (map (column_of line) cs))) (sym (map-snoc name_in_column before (column_of line c))) ∙ r.1),
+      and_from (is_sound_column (column_of line c)) (list_all is_sound_column (map (column_of line) cs)) (and_from (nat_le (length (named line c.name)) 32) (is_sound_kind (kind_of line c.kind)) (named-short line c.name) (kind-sound line c.kind kind_ok)) r.2,
+    )
 
 -- ---- one line
 
@@ -203,7 +204,7 @@ table-tidy s n line t cs c more e h some p =
     let count : length (map (column_of line) cs) ≡ length cs = length-map (column_of line) cs in
     let few : nat_lt 8 (length cs) ≡ false = or_left (nat_lt 8 (length cs)) (nat_le 16 (length s.script.head.tables)) u.0 in
     let good : is_sound_table (record { name = named line t; columns = map (column_of line) cs }) ≡ true =
-        and_from _ _ (named-short line t) (and_from _ _ (ap (nat_le 1) count ∙ at_least_one cs c more some) (and_from _ _ (ap (λ k. nat_le k 8) count ∙ not_more (length cs) few) (and_from _ _ cols.1 cols.2))) in
+    and_from _ _ (named-short line t) (and_from _ _ (ap (nat_le 1) count ∙ at_least_one cs c more some) (and_from _ _ (ap (λ k. nat_le k 8) count ∙ not_more (length cs) few) (and_from _ _ cols.1 cols.2))) in
     subst (λ (z : Event). Tidy (advance s n z)) (sym (value_is (checked e None) (declared s.script.head line t cs) p))
     (record {
       config = h.config;

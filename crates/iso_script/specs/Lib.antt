@@ -3,7 +3,6 @@ pub mod Numbered
 pub mod Naming
 pub mod Events
 pub mod Keyed
-pub mod Statements
 pub mod Rules
 pub mod Advance
 pub mod Unbuilt

@@ -1,15 +1,12 @@
 -- Reading the lines of a script, as the code does.
 use Rattle.std.specs.Prelude.{ℕ, Bool, true, false, List, [], ◌∷◌, Option, None}
-use Rattle.iso_types.specs.declared.head.Head.{Head}
 use Rattle.iso_types.specs.declared.head.Isolation.{Isolation}
 use Rattle.iso_types.specs.declared.head.Isolation.TheVariants as level
-use Rattle.iso_sql.specs.declared.statement.Statement.{Statement}
-use Rattle.iso_sql.specs.declared.statement.Statement.TheVariants as st
+use Rattle.iso_sql.specs.StatementReading.{statement}
 use Rattle.iso_grammar.specs.declared.fault.Checked.{Checked}
 use Rattle.iso_grammar.specs.declared.token.Kind.{Kind}
 use Rattle.iso_grammar.specs.declared.token.Kind.TheVariants as k
 use Rattle.iso_grammar.specs.declared.token.Token.{Token}
-use Rattle.iso_grammar.specs.Faults.{checked}
 use Rattle.iso_grammar.specs.Reading.{Parser, pure, ◌>>=◌, ◌>>◌, either, expect, many, optional}
 use Rattle.iso_script.specs.declared.event.Event.{Event}
 use Rattle.iso_script.specs.declared.event.Event.TheVariants as event
@@ -154,9 +151,6 @@ connect_line s line = do
 unfoldable pub begin_line : Parser (Checked Event)
 begin_line = expect k.Begin >> pure (plain event.Begin)
 
-unfoldable pub statement : Head → List ℕ → ℕ → Parser (Checked Statement)
-statement head line n = expect k.Commit >> pure (checked st.Commit None)
-
 unfoldable pub statement_line : Reader → List ℕ → ℕ → Parser (Checked Event)
 statement_line s line n = do
   free ← flag k.Ampersand
@@ -179,7 +173,7 @@ unfoldable pub end_line : Parser (Checked Event)
 end_line = expect k.End >> pure (plain event.End)
 
 unfoldable pub head_line : Reader → List ℕ → ℕ → Parser (Checked Event)
-head_line s line n = either (k.Config ∷ []) (config_line s line) (either (k.Table ∷ []) (table_line s line n) 
+head_line s line n = either (k.Config ∷ []) (config_line s line) (either (k.Table ∷ []) (table_line s line n)
     (either (k.Unique ∷ k.Index ∷ []) (index_line s line) (either (k.Row ∷ []) (row_line s line n) (either (k.Connect ∷ []) (connect_line s line) begin_line))))
 
 unfoldable pub body_line : Reader → List ℕ → ℕ → Parser (Checked Event)

@@ -20,7 +20,7 @@ use Rattle.iso_script.specs.declared.words.TypeWords.{TypeWords}
 use Rattle.iso_script.specs.declared.words.TypeWords.TheVariants as ty
 use Rattle.iso_script.specs.Events.{configured, declared, connected, stated, expired, pictured, plain}
 use Rattle.iso_script.specs.Keyed.{index_words, rowed, indexed}
-use Rattle.iso_script.specs.Statements.{statement}
+use Rattle.iso_sql.specs.Statements.{statement}
 
 -- one or more, with commas between
 abbrev pub separated : {A : Type 0} → Lang A → Lang (List A)

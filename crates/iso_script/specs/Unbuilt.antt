@@ -9,7 +9,7 @@ use Rattle.iso_script.specs.declared.event.Event.TheVariants as event
 use Rattle.iso_script.specs.declared.event.Setting.{Setting}
 use Rattle.iso_script.specs.declared.event.Setting.TheVariants as setting
 use Rattle.iso_script.specs.declared.reader.Reader.{Reader}
-use Rattle.iso_script.specs.Built.{is_built_statement}
+use Rattle.iso_sql.specs.Unbuilt as sql
 
 -- of the settings CUR_COMMIT alone
 abbrev pub is_built_setting : Setting → Bool
@@ -23,7 +23,7 @@ is_built_level _ = false
 
 -- of the body lines statements alone
 abbrev pub is_built_asked : What → Bool
-is_built_asked (what.Statement x) = is_built_statement x
+is_built_asked (what.Statement x) = sql.is_built x
 is_built_asked _ = false
 
 -- No index; at most 1,000 rows of the head; one connection; no `&`; at most 1,000 body lines, and END behind none of them or a COMMIT.

@@ -271,11 +271,7 @@ pub fn expired(head: &Head, line: &[u8], conn: Token) -> Checked<Event>
     ensures { result ≡ spec.expired head.now line.now conn }
 {
     Checked {
-        value: Event::Asked(
-            Some(connection_of(head, line, conn)),
-            false,
-            What::Expire,
-        ),
+        value: Event::Asked(Some(connection_of(head, line, conn)), false, What::Expire),
         fault: connection_fault(head, line, conn),
     }
 }

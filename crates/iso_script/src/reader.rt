@@ -133,13 +133,7 @@ impl Reader {
         }
     }
 
-    fn ask(
-        &mut self,
-        number: u32,
-        conn: Option<Conn>,
-        free: bool,
-        what: What,
-    ) -> Result<(), Memory>
+    fn ask(&mut self, number: u32, conn: Option<Conn>, free: bool, what: What) -> Result<(), Memory>
         ensures { OnOk result (self.new ≡ step.advance self.old number (event.Asked conn free what)) }
     {
         self.unfinished = !is_commit_line(&what);

@@ -11,8 +11,8 @@ use crate::keyed::{indexed, rowed};
 use crate::reader::{Place, Reader};
 use crate::words::{ColumnWords, IndexWords, RowWords, SettingName, SettingWords, TypeWords};
 use iso_grammar::{Checked, Kind, ReadError, Token, Tokens};
-use iso_sql::Statement;
-use iso_types::{Head, Isolation, Items};
+use iso_sql::take_statement;
+use iso_types::{Isolation, Items};
 use std::alloc::Global;
 
 #[tactic(auto, unfolding(crate::specs::RuleReading::flag))]
@@ -237,11 +237,7 @@ fn next_literal(tokens: &mut Tokens<'_>) -> Result<Token, ReadError>
 }
 
 #[tactic(auto, unfolding(crate::specs::RuleReading::literals))]
-fn literals(
-    alloc: Global,
-    tokens: &mut Tokens<'_>,
-    bound: usize,
-) -> Result<Items<Token>, ReadError>
+fn literals(alloc: Global, tokens: &mut Tokens<'_>, bound: usize) -> Result<Items<Token>, ReadError>
     requires most { tokens.old.most ≡ bound }
     ensures { Gives (spec.literals bound) tokens.old result tokens.new }
 {
@@ -378,24 +374,6 @@ fn begin_line(tokens: &mut Tokens<'_>) -> Result<Checked<Event>, ReadError>
     Ok(plain(Event::Begin))
 }
 
-#[tactic(auto, unfolding(crate::specs::RuleReading::statement))]
-fn statement(
-    _alloc: Global,
-    _head: &Head,
-    _line: &[u8],
-    tokens: &mut Tokens<'_>,
-    bound: usize,
-) -> Result<Checked<Statement>, ReadError>
-    requires most { tokens.old.most ≡ bound }
-    ensures { Gives (spec.statement _head.now _line.now bound) tokens.old result tokens.new }
-{
-    tokens.expect(Kind::Commit)?;
-    Ok(Checked {
-        value: Statement::Commit,
-        fault: None,
-    })
-}
-
 #[tactic(auto, unfolding(crate::specs::RuleReading::statement_line))]
 fn statement_line(
     alloc: Global,
@@ -410,7 +388,7 @@ fn statement_line(
     let free = flag(Kind::Ampersand, tokens)?;
     let conn = tokens.expect(Kind::Name)?;
     tokens.expect(Kind::Colon)?;
-    let found = statement(alloc, &reader.script.head, line, tokens, bound)?;
+    let found = take_statement(alloc, &reader.script.head, line, tokens, bound)?;
     flag(Kind::Semicolon, tokens)?;
     Ok(stated(&reader.script.head, line, free, conn, found))
 }

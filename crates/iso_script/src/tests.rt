@@ -6,7 +6,7 @@ use std::alloc::Global;
 const LEAST: &[u8] = b"DB2ISO 1\nBEGIN\nEND\n";
 
 const LOOSE: &[u8] =
-    b"-- a script\r\n\r\ndb2iso\t01\r\nconfig cur_commit Disabled\r\n \t \r\nTable t(id Integer not null,b bigint, v varchar(32))\r\nROW T (1, -9223372036854775808, 'it''s 32 bytes, with doubled ''''x''')\r\nrow t(-7,NULL,null)\r\n\tConnect a Ur\r\nTABLE ABCDEFGHIJKLMNOPQRSTUVWXYZ123456 (A INTEGER, B INTEGER, C INTEGER, D INTEGER, E INTEGER, F INTEGER, G INTEGER, H INTEGER)\r\nbegin\r\n-- a body line\r\na : commit ;\r\nA:COMMIT\r\nend\r\n\r\n--";
+    b"-- a script\r\n\r\ndb2iso\t01\r\nconfig cur_commit Disabled\r\n \t \r\nTable t(id Integer not null,b bigint, v varchar(32))\r\nROW T (1, -9223372036854775808, 'it''s 32 bytes, with doubled ''''x''')\r\nrow t(-7,NULL,null)\r\n\tConnect a Ur\r\nTABLE LATER (N INTEGER)\r\nTABLE ABCDEFGHIJKLMNOPQRSTUVWXYZ123456 (A INTEGER, B INTEGER, C INTEGER, D INTEGER, E INTEGER, F INTEGER, G INTEGER, H INTEGER)\r\nbegin\r\n-- a body line\r\na : Insert into t values (7, 0, 'x''y') ;\r\nA:SELECT ID FROM T WHERE NOT B=7 AND v IS NULL with ur\r\nA:select count ( * ) from later where n between -1 and 1 with ur;\r\nA: COMMIT WORK\r\nend\r\n\r\n--";
 
 // Head lines, and what is wrong with the last of them. The first line and its table are written before them.
 const HEADS: [(&[u8], LineCause); 43] = [
@@ -68,7 +68,47 @@ const HEADS: [(&[u8], LineCause); 43] = [
 ];
 
 // Whole scripts, with their first bad line and its cause.
-const REFUSED: [(&[u8], u32, LineCause); 18] = [
+const REFUSED: [(&[u8], u32, LineCause); 26] = [
+    (
+        b"DB2ISO 1\nCONNECT A\nBEGIN\nA: SELECT * FROM T\nEND\n",
+        4,
+        LineCause::Unknown(18),
+    ),
+    (
+        b"DB2ISO 1\nTABLE T (N VARCHAR(32))\nCONNECT A\nBEGIN\nA: DELETE FROM T WHERE N = 'ABCDEFGHIJKLMNOPQRSTUVWXYZ1234567'\n",
+        5,
+        LineCause::Limit(28),
+    ),
+    (
+        b"DB2ISO 1\nTABLE T (ID INTEGER, V INTEGER)\nCONNECT A\nBEGIN\nA: SELECT ID FROM T WHERE V > NULL WITH UR\n",
+        5,
+        LineCause::Syntax(31),
+    ),
+    (
+        b"DB2ISO 1\nTABLE T (N INTEGER)\nCONNECT A\nBEGIN\nA: INSERT INTO T VALUES (2147483648)\n",
+        5,
+        LineCause::TypeFault(26),
+    ),
+    (
+        b"DB2ISO 1\nTABLE T (N INTEGER)\nCONNECT A\nBEGIN\nB: INSERT INTO T VALUES ('x')\n",
+        5,
+        LineCause::Unknown(1),
+    ),
+    (
+        b"DB2ISO 1\nTABLE T (N INTEGER)\nCONNECT A\nBEGIN\nA: INSERT INTO T VALUES (1)\nEND\n",
+        6,
+        LineCause::Unbuilt,
+    ),
+    (
+        b"DB2ISO 1\nTABLE T (N INTEGER)\nCONNECT A\nBEGIN\nA: SELECT N FROM T\n",
+        5,
+        LineCause::Unbuilt,
+    ),
+    (
+        b"DB2ISO 1\nTABLE T (N INTEGER)\nCONNECT A\nBEGIN\nA: DELETE FROM T\n",
+        5,
+        LineCause::Unbuilt,
+    ),
     (b"", 1, LineCause::Syntax(1)),
     (b"DB2ISO 2\n", 1, LineCause::Syntax(8)),
     (b"DB2ISO 1\r", 1, LineCause::Syntax(9)),
@@ -219,7 +259,7 @@ fn refuses_tables(alloc: Global) -> bool {
 #[test]
 fn scripts_are_read(rt: HostRuntime) {
     assert!(rt; reads(rt.alloc(), LEAST, &[]));
-    assert!(rt; reads(rt.alloc(), LOOSE, &[13, 14]));
+    assert!(rt; reads(rt.alloc(), LOOSE, &[14, 15, 16, 17]));
 }
 
 #[test]

@@ -1,15 +1,12 @@
 //! The lines of the grammar that this stage of the project does not run yet.
 
 ghost use Rattle.std.specs.Prelude.{◌≡◌};
-ghost use Rattle.iso_script.specs.Built.{is_built_statement as runs};
 ghost use Rattle.iso_script.specs.Unbuilt as spec;
 
 use crate::event::{Event, Setting};
 use crate::reader::Reader;
 use crate::script::What;
-use iso_sql::Statement;
 use iso_types::Isolation;
-
 
 fn is_built_setting(setting: Setting) -> bool
     ensures { result ≡ spec.is_built_setting setting }
@@ -23,25 +20,11 @@ fn is_built_level(level: Isolation) -> bool
     matches!(level, Isolation::Ur | Isolation::Cs)
 }
 
-fn is_built_statement(statement: &Statement) -> bool
-    ensures { result ≡ runs statement.now }
-{
-    match statement {
-        Statement::Select {
-            level: Some(Isolation::Ur),
-            ..
-        } => true,
-        Statement::Insert { .. } => true,
-        Statement::Commit => true,
-        _ => false,
-    }
-}
-
 fn is_built_asked(what: &What) -> bool
     ensures { result ≡ spec.is_built_asked what.now }
 {
     match what {
-        What::Statement(statement) => is_built_statement(statement),
+        What::Statement(statement) => iso_sql::is_built(statement),
         _ => false,
     }
 }

@@ -8,6 +8,8 @@ returns-in-Ok-verdict c =
     (judged c.args.self.now c.args.line.now c.args.found.now c.in-Ok.said (Ok c.in-Ok-verdict.event) c.requires.same c.in-Ok-verdict.ensures c.in-Ok.ensures)
 
 pub returns-in-Err : goal.returns-in-Err
-returns-in-Err c =
-    (refl, is_wrong c.args.self.now c.args.line.now c.in-Err.cause (Err c.in-Err.cause) refl
-    (judged c.args.self.now c.args.line.now c.args.found.now c.in-Ok.said (Err c.in-Err.cause) c.requires.same c.in-Err.ensures c.in-Ok.ensures))
+returns-in-Err c = (
+  refl,
+  is_wrong c.args.self.now c.args.line.now c.in-Err.cause (Err c.in-Err.cause) refl
+      (judged c.args.self.now c.args.line.now c.args.found.now c.in-Ok.said (Err c.in-Err.cause) c.requires.same c.in-Err.ensures c.in-Ok.ensures),
+)
