@@ -9,10 +9,8 @@ use Rattle.iso_history.specs.declared.entry.Entry.{Entry}
 use Rattle.iso_io.specs.Moves.{AppendsPart}
 use Rattle.iso_script.proofs.Exact.{not_both, one_script}
 use Rattle.iso_script.specs.Built.{IsBuilt}
-use Rattle.iso_script.specs.Reading.{Refuses, bad}
+use Rattle.iso_script.specs.Reading.{bad}
 use Rattle.iso_script.specs.declared.fault.LineCause.{LineCause}
-use Rattle.iso_script.specs.declared.fault.LineCause.TheVariants as cause
-use Rattle.iso_script.specs.declared.fault.ScriptFault.TheVariants as fault
 use Rattle.iso_script.specs.declared.script.Script.{Script}
 
 -- the empty history is legal
@@ -31,15 +29,6 @@ untold script status history old b s h = record {
   only = inr (inr s);
 }
 
--- a line that is refused is a bad one
-pub refuses_bad : (bytes : List ℕ) (n : ℕ) (why : LineCause) → Refuses bytes (fault.BadLine n why) → bad bytes n
-refuses_bad bytes n cause.Unbuilt r = r
-refuses_bad bytes n (cause.Syntax p) r = absurd r
-refuses_bad bytes n (cause.Unknown p) r = absurd r
-refuses_bad bytes n (cause.TypeFault p) r = absurd r
-refuses_bad bytes n (cause.Duplicate p) r = absurd r
-refuses_bad bytes n (cause.Limit p) r = absurd r
-
 module _ (bytes : List ℕ) (status : ℕ) (history : List Entry) (old new : Option (List ℕ)) where
   headline-of : IsOutcome bytes status history old new → IsHeadline bytes status history old new
   headline-of (inl r) script reads_ began = absurd (began r.3)
@@ -48,19 +37,19 @@ module _ (bytes : List ℕ) (status : ℕ) (history : List Entry) (old new : Opt
       subst (λ s. IsTold s status history old new) (one_script bytes r.1 script r.2 reads_) r.3
 
   exact-of : IsOutcome bytes status history old new → IsExact bytes status
-  exact-of (inl r) = (λ n b. inl r.0, λ l. inl r.0)
-  exact-of (inr (inl u)) = (λ n b. inr u.0, λ l. inr u.0)
-  exact-of (inr (inr r)) = (λ n b. absurd (not_both bytes r.1 n r.2 b), λ l. absurd (let h : length bytes ≤ 1048576 = r.0 in omega arith))
+  exact-of (inl r) = (λ n why b. inl r.0, λ l. inl r.0)
+  exact-of (inr (inl u)) = (λ n why b. inr u.0, λ l. inr u.0)
+  exact-of (inr (inr r)) = (λ n why b. absurd (not_both bytes r.1 n why r.2 b), λ l. absurd (let h : length bytes ≤ 1048576 = r.0 in omega arith))
 
   -- an outcome carries the headline, and says that refusals are exact
   pub answered : IsOutcome bytes status history old new → IsAnswered bytes status history old new
   answered o = record { outcome = o; headline = headline-of o; exact = exact-of o }
 
 -- a refusal at a bad line is an outcome
-pub refusal-outcome : (bytes : List ℕ) (n : ℕ) (status : ℕ) (history : List Entry) (old new : Option (List ℕ)) → bad bytes n
-    → IsRefusal n status history old new → IsOutcome bytes status history old new
-refusal-outcome bytes n status history old new b (inl r) = inl (r.0, refusal_at n, inr (n, b, refl), r.1, r.2)
-refusal-outcome bytes n status history old new b (inr r) = inr (inl (inr r.0, r.1, r.2))
+pub refusal-outcome : (bytes : List ℕ) (n : ℕ) (why : LineCause) (status : ℕ) (history : List Entry) (old new : Option (List ℕ)) → bad bytes n why
+    → IsRefusal n why status history old new → IsOutcome bytes status history old new
+refusal-outcome bytes n why status history old new b (inl r) = inl (r.0, refusal_at n why, inr (n, why, b, refl), r.1, r.2)
+refusal-outcome bytes n why status history old new b (inr r) = inr (inl (inr r.0, r.1, r.2))
 
 -- too many bytes are refused
 pub too_long-answered : (bytes : List ℕ) (status : ℕ) (history : List Entry) (old new : Option (List ℕ)) → length bytes ≡ 1048577

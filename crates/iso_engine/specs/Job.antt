@@ -9,6 +9,8 @@ use Rattle.iso_history.specs.declared.entry.Entry.{Entry}
 use Rattle.iso_io.specs.Moves.{AppendsPart}
 use Rattle.iso_render.specs.Transcript.{transcript}
 use Rattle.iso_script.specs.Reading.{bad, reads}
+use Rattle.iso_script.specs.declared.fault.LineCause.{LineCause}
+use Rattle.iso_script.specs.declared.fault.LineCause.TheVariants as cause
 use Rattle.iso_script.specs.declared.script.Script.{Script}
 
 -- the texts of the words
@@ -23,9 +25,27 @@ IsRow words = words ≡ codes "serial" ∷ []
 abbrev pub usage : List ℕ
 usage = codes "USAGE\n"
 
--- what a script is refused with at its first bad line
-abbrev pub refusal_at : ℕ → List ℕ
-refusal_at n = codes "LINE " ++ decimal n ++ codes " UNBUILT AT 1\n"
+-- how a cause prints
+abbrev pub cause_word : LineCause → List ℕ
+cause_word (cause.Syntax p) = codes "SYNTAX"
+cause_word (cause.Unknown p) = codes "UNKNOWN"
+cause_word (cause.TypeFault p) = codes "TYPE"
+cause_word (cause.Duplicate p) = codes "DUPLICATE"
+cause_word (cause.Limit p) = codes "LIMIT"
+cause_word cause.Unbuilt = codes "UNBUILT"
+
+-- where it is, in bytes of its line from 1
+abbrev pub cause_place : LineCause → ℕ
+cause_place (cause.Syntax p) = p
+cause_place (cause.Unknown p) = p
+cause_place (cause.TypeFault p) = p
+cause_place (cause.Duplicate p) = p
+cause_place (cause.Limit p) = p
+cause_place cause.Unbuilt = 1
+
+-- what a script is refused with at its first bad line, for this cause
+abbrev pub refusal_at : ℕ → LineCause → List ℕ
+refusal_at n why = codes "LINE " ++ decimal n ++ codes " " ++ cause_word why ++ codes " AT " ++ decimal (cause_place why) ++ codes "\n"
 
 -- what a script of too many bytes is refused with
 abbrev pub too_long : List ℕ
@@ -33,7 +53,7 @@ too_long = codes "LINE 0 TOO LONG\n"
 
 -- the text that refuses these bytes: there are too many, or this line is the first bad one
 abbrev pub RefusedWith : List ℕ → List ℕ → Type 0
-RefusedWith bytes text = ((length bytes ≡ 1048577) × (text ≡ too_long)) ⊎ ((n : ℕ) × bad bytes n × (text ≡ refusal_at n))
+RefusedWith bytes text = ((length bytes ≡ 1048577) × (text ≡ too_long)) ⊎ ((n : ℕ) × (why : LineCause) × bad bytes n why × (text ≡ refusal_at n why))
 
 -- what a run of the script leaves: its history is legal; it ends with Finish but where memory was wanting; all of its transcript is
 -- written, or a part where the sink failed, or nothing where memory was wanting
@@ -72,7 +92,7 @@ IsHeadline bytes status history old new =
 -- bytes with a bad line, and too many bytes, are refused, but where the source failed or memory was wanting
 abbrev pub IsExact : List ℕ → ℕ → Type 0
 IsExact bytes status =
-    ((n : ℕ) → bad bytes n → (status ≡ 2) ⊎ ((status ≡ 3) ⊎ (status ≡ 5)))
+    ((n : ℕ) (why : LineCause) → bad bytes n why → (status ≡ 2) ⊎ ((status ≡ 3) ⊎ (status ≡ 5)))
     × (length bytes ≡ 1048577 → (status ≡ 2) ⊎ ((status ≡ 3) ⊎ (status ≡ 5)))
 
 -- all that is said of the bytes that were read
@@ -91,6 +111,6 @@ abbrev pub IsScript : List ℕ → Script → Type 0
 IsScript bytes script = (length bytes ≤ 1048576) × reads bytes script
 
 -- a bad line is told, or memory was wanting
-abbrev pub IsRefusal : ℕ → ℕ → List Entry → Option (List ℕ) → Option (List ℕ) → Type 0
-IsRefusal n status history old new =
-    ((status ≡ 2) × (history ≡ []) × AppendsPart old new (refusal_at n)) ⊎ ((status ≡ 5) × (history ≡ []) × Appends old new [])
+abbrev pub IsRefusal : ℕ → LineCause → ℕ → List Entry → Option (List ℕ) → Option (List ℕ) → Type 0
+IsRefusal n why status history old new =
+    ((status ≡ 2) × (history ≡ []) × AppendsPart old new (refusal_at n why)) ⊎ ((status ≡ 5) × (history ≡ []) × Appends old new [])

@@ -3,6 +3,7 @@ ghost use Rattle.std.specs.Io.KnownBytes.{Appends, Consumes};
 ghost use Rattle.iso_conduct.specs.Legal.{IsFinished};
 ghost use Rattle.iso_history.specs.Makers.{by_dispatcher};
 ghost use Rattle.iso_history.specs.declared.entry.Act.TheVariants.{Finish as Ends};
+ghost use Rattle.iso_engine.specs.Job as spec;
 ghost use Rattle.iso_engine.specs.Job.{IsAnswered, IsComplete, IsRefusal, IsRow, IsScript, IsTold, refusal_at, texts, usage};
 ghost use Rattle.iso_io.specs.Moves.{AppendsPart, HasRisen};
 ghost use Rattle.iso_script.specs.Built.{IsBuilt};
@@ -13,7 +14,7 @@ use crate::run::run_serial;
 use iso_history::{Act, Entry, History, Who};
 use iso_io::{ReadFault, Sink, Source, read_script, write_whole};
 use iso_render::transcript;
-use iso_script::{Script, ScriptFault};
+use iso_script::{LineCause, Script, ScriptFault};
 use iso_types::Gate;
 use std::alloc::{AllocError, Global};
 use std::sync::Wait;
@@ -59,11 +60,41 @@ fn is_finish(entry: &Entry) -> bool
     )
 }
 
-/// The line that refuses a script at its first bad line.
-fn refusal(alloc: Global, line: u32) -> Result<String, AllocError>
-    ensures { IfOk result (λ text. string_bytes text ≡ refusal_at line) }
+/// How a cause prints.
+fn cause_word(cause: LineCause) -> &'static str
+    ensures { result.now ≡ spec.cause_word cause }
 {
-    format!(in alloc; "LINE {line} UNBUILT AT 1\n")
+    match cause {
+        LineCause::Syntax(_) => "SYNTAX",
+        LineCause::Unknown(_) => "UNKNOWN",
+        LineCause::TypeFault(_) => "TYPE",
+        LineCause::Duplicate(_) => "DUPLICATE",
+        LineCause::Limit(_) => "LIMIT",
+        LineCause::Unbuilt => "UNBUILT",
+    }
+}
+
+/// Where it is, in bytes of its line from 1.
+fn cause_place(cause: LineCause) -> u32
+    ensures { result ≡ spec.cause_place cause }
+{
+    match cause {
+        LineCause::Syntax(place)
+        | LineCause::Unknown(place)
+        | LineCause::TypeFault(place)
+        | LineCause::Duplicate(place)
+        | LineCause::Limit(place) => place,
+        LineCause::Unbuilt => 1,
+    }
+}
+
+/// The line that refuses a script at its first bad line.
+fn refusal(alloc: Global, line: u32, cause: LineCause) -> Result<String, AllocError>
+    ensures { IfOk result (λ text. string_bytes text ≡ refusal_at line cause) }
+{
+    let word = cause_word(cause);
+    let place = cause_place(cause);
+    format!(in alloc; "LINE {line} {word} AT {place}\n")
 }
 
 /// A report without a run.
@@ -102,10 +133,10 @@ fn run_script<K: Sink>(alloc: Global, script: &Script, sink: &mut K) -> Report
 }
 
 /// Refuses a script at its first bad line.
-fn refuse<K: Sink>(alloc: Global, line: u32, sink: &mut K) -> Report
-    ensures { IsRefusal line result.status result.history.items (K.held sink.old) (K.held sink.new) }
+fn refuse<K: Sink>(alloc: Global, line: u32, cause: LineCause, sink: &mut K) -> Report
+    ensures { IsRefusal line cause result.status result.history.items (K.held sink.old) (K.held sink.new) }
 {
-    match refusal(alloc, line) {
+    match refusal(alloc, line, cause) {
         Ok(text) => {
             let _ = write_whole(sink, text.as_bytes());
             without_run(2, alloc)
@@ -124,7 +155,7 @@ fn run_bytes<K: Sink>(alloc: Global, bytes: &[u8], sink: &mut K) -> Report
     match Script::read(alloc, bytes) {
         Ok(script) => run_script(alloc, &script, sink),
         Err(ScriptFault::Memory) => without_run(5, alloc),
-        Err(ScriptFault::BadLine(line, _)) => refuse(alloc, line, sink),
+        Err(ScriptFault::BadLine(line, cause)) => refuse(alloc, line, cause, sink),
     }
 }
 

@@ -32,13 +32,13 @@ const CASES: [(&[&str], &[u8], &[u8], u8); 11] = [
     (
         &["serial"],
         b"DB2ISO 1\nBEGIN\nEND\n",
-        b"LINE 2 UNBUILT AT 1\n",
-        2,
+        b"END\n",
+        0,
     ),
     (
         &["serial"],
         b"DB2ISO 1\nTABLE T (N INTEGER)\nCONNECT A\nBEGIN\nA: INSERT INTO T VALUES (7)\nA: SELECT N FROM T WITH UR\nA: COMMIT\n",
-        b"LINE 8 UNBUILT AT 1\n",
+        b"LINE 8 SYNTAX AT 1\n",
         2,
     ),
     (&[], FIRST, b"USAGE\n", 1),
@@ -46,7 +46,7 @@ const CASES: [(&[&str], &[u8], &[u8], u8); 11] = [
     (&["SERIAL"], FIRST, b"USAGE\n", 1),
     (&["run"], FIRST, b"USAGE\n", 1),
     (&[""], FIRST, b"USAGE\n", 1),
-    (&["serial"], b"", b"LINE 1 UNBUILT AT 1\n", 2),
+    (&["serial"], b"", b"LINE 1 SYNTAX AT 1\n", 2),
 ];
 
 // The status for these words and streams, and the number of entries.
@@ -209,7 +209,7 @@ fn streams_that_fail(rt: HostRuntime) -> Result<(), Fail> {
     }
     for count in 0..20 {
         assert!(rt;
-            fails_after(&rt, &["serial"], b"", b"LINE 1 UNBUILT AT 1\n", count, 2)?,
+            fails_after(&rt, &["serial"], b"", b"LINE 1 SYNTAX AT 1\n", count, 2)?,
             "{count}"
         );
     }
