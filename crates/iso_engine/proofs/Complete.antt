@@ -37,7 +37,7 @@ module _ (bytes : List ℕ) (script : Script) (status : ℕ) (history : List Ent
   of-outcome : IsOutcome bytes status history old new → IsComplete script status history left old new ⊎ (status ≡ 5)
   of-outcome (inl r) = elim r.2 [
     | inl l ↦ absurd (let h : length bytes ≤ 1048576 = is.0 in let k : length bytes ≡ 1048577 = l.0 in omega (arith, h, k))
-    | inr b ↦ absurd (not_both bytes script b.0 is.1 b.1)
+    | inr b ↦ absurd (not_both bytes script b.0 b.1 is.1 b.2)
   ]
   of-outcome (inr (inl u)) = elim u.0 [ inl f ↦ absurd (unfailed f) | inr m ↦ inr m ]
   of-outcome (inr (inr r)) = told-complete (subst (λ s. IsTold s status history old new) (one_script bytes r.1 script r.2 is.1) r.3)

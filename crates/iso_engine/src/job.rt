@@ -1,4 +1,5 @@
 ghost use Rattle.std.specs.Prelude.{◌≡◌, ℕ, ◌≤◌, ◌⊎◌, Some, ◌↔◌, List, [], ◌∷◌, ◌++◌, string_bytes, length, true, IsTrue, IfOk, codes};
+ghost use Rattle.std.specs.Fmt.{decimal};
 ghost use Rattle.std.specs.Io.KnownBytes.{Appends, Consumes};
 ghost use Rattle.iso_conduct.specs.Legal.{IsFinished};
 ghost use Rattle.iso_history.specs.Makers.{by_dispatcher};
@@ -88,13 +89,22 @@ fn cause_place(cause: LineCause) -> u32
     }
 }
 
+/// The line of a refusal.
+fn refusal_line(alloc: Global, line: u32, word: &str, place: u32) -> Result<String, AllocError>
+    ensures { IfOk result (λ text. string_bytes text ≡ codes "LINE " ++ decimal line ++ codes " " ++ word.now ++ codes " AT " ++ decimal place ++ codes "\n") }
+{
+    let mut text = format!(in alloc; "LINE {line} ")?;
+    text.push_str(word)?;
+    let at = format!(in alloc; " AT {place}\n")?;
+    text.push_str(at.as_str())?;
+    Ok(text)
+}
+
 /// The line that refuses a script at its first bad line.
 fn refusal(alloc: Global, line: u32, cause: LineCause) -> Result<String, AllocError>
     ensures { IfOk result (λ text. string_bytes text ≡ refusal_at line cause) }
 {
-    let word = cause_word(cause);
-    let place = cause_place(cause);
-    format!(in alloc; "LINE {line} {word} AT {place}\n")
+    refusal_line(alloc, line, cause_word(cause), cause_place(cause))
 }
 
 /// A report without a run.
