@@ -1,5 +1,5 @@
 -- What a text says is one thing, and what is wrong with it is one thing.
-use Rattle.std.proofs.Common.{◌≡◌, ℕ, true, false, List, length, Option, Some, None, Result, Ok, Err, refl, sym, ap, ◌∙◌, inl, inr, subst}
+use Rattle.std.proofs.Common.{◌≡◌, ℕ, true, false, List, length, Option, Some, None, Result, Ok, Err, refl, sym, ap, ◌∙◌, inl, inr, subst, ◌⊎◌}
 use Rattle.iso_types.specs.declared.head.Head.{Head}
 use Rattle.iso_grammar.specs.declared.fault.Cause.{Cause}
 use Rattle.iso_grammar.specs.declared.fault.Cause.TheVariants as cause
@@ -9,6 +9,7 @@ use Rattle.iso_grammar.specs.declared.token.Token.{Token}
 use Rattle.iso_grammar.specs.Faults.{checked, place_of}
 use Rattle.iso_grammar.specs.Grammar.{StopsAt}
 use Rattle.iso_grammar.specs.Lex.{tokens}
+use Rattle.iso_grammar.proofs.Choices.{decide}
 use Rattle.iso_grammar.proofs.Whole as whole
 use Rattle.iso_sql.specs.declared.fault.SqlFault.{SqlFault}
 use Rattle.iso_sql.specs.declared.fault.SqlFault.TheVariants as fault
@@ -123,3 +124,51 @@ module _ (head : Head) (text : List ℕ) where
   only_fault (fault.Limit p) r t a b = faulty cause.Limit p r a b
   only_fault fault.Unbuilt r t a b = unbuilt r a b
   only_fault fault.Memory r t a b = absurd t
+
+  -- ---- each text has one answer
+
+  told : (why : Cause) (place : ℕ) → IsTold (as_fault why place)
+  told cause.Unknown place = tt
+  told cause.TypeFault place = tt
+  told cause.Duplicate place = tt
+  told cause.Limit place = tt
+
+  abbrev Way : Type 0
+  Way = ((x : Statement) × Reads head text x) ⊎ ((e : SqlFault) × IsTold e × Refuses head text e)
+
+  plainly : (x : Statement) → statement head text (tokens text) (checked x None) → Way
+  plainly x l = elim (decide (is_built x)) [
+    | inl b ↦ inl (x, (l, b))
+    | inr b ↦ inr (fault.Unbuilt, tt, (x, l, b))
+  ]
+
+  judge : (x : Statement) (f : Option Fault) → statement head text (tokens text) (checked x f) → Way
+  judge x None l = plainly x l
+  judge x (Some f) l = inr (as_fault f.cause f.place, told f.cause f.place, tells f.cause f.place (x, l))
+
+  pub one_way : Way
+  one_way = elim (whole.either_way (statement-reads head text) (tokens text)) [
+    | inl w ↦ judge w.0.value w.0.fault w.1
+    | inr w ↦ inr (fault.Syntax (place_of (tokens text) w.0 (length text)), tt, (w.0, w.1, refl))
+  ]
+
+  err_ok : {A : Type 0} (e : SqlFault) (x : Statement) → Err e ≡ Ok x → A
+  err_ok e x is = absurd cc
+
+  abbrev failed : SqlFault → Result Statement SqlFault
+  failed e = Err e
+
+  err_same : (e f : SqlFault) → failed e ≡ failed f → e ≡ f
+  err_same e f is = cc
+
+  no_memory : {A : Type 0} (e : SqlFault) → IsTold e → failed e ≡ failed fault.Memory → A
+  no_memory e t is = absurd (subst IsTold (err_same e fault.Memory is) t)
+
+  pub not_both : (x : Statement) (e : SqlFault) → Reads head text x → IsTold e → Refuses head text e → ⊥
+  not_both x e a t r = elim (only x (Err e) a r) [ inl is ↦ err_ok e x is | inr is ↦ no_memory e t is ]
+
+  pub one_statement : (x y : Statement) → Reads head text x → Reads head text y → x ≡ y
+  one_statement x y a b = value_same x y a.0 b.0
+
+  pub one_fault : (e f : SqlFault) → IsTold e → IsTold f → Refuses head text e → Refuses head text f → e ≡ f
+  one_fault e f t u a b = elim (only_fault e (Err f) t a b) [ inl is ↦ sym (err_same f e is) | inr is ↦ no_memory f u is ]

@@ -15,7 +15,7 @@ mod short;
 mod statement;
 
 pub use fault::SqlFault;
-pub use read::{is_built, read_statement};
+pub use read::{exactly_one_answer, is_built, read_statement};
 pub use reader::take_statement;
 pub use rows::{placed_row, stored_fault, stored_row, stored_value, stores};
 pub use scope::{Scope, gives, name_of, scope_of, table_of, table_place};

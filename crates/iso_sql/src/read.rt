@@ -1,6 +1,6 @@
 //! Reads the text of a statement.
 
-ghost use Rattle.std.specs.Prelude.{◌≡◌, ◌≤◌, ◌<◌, ◌^◌, length, Ok, Err, IfOk, true};
+ghost use Rattle.std.specs.Prelude.{◌≡◌, ◌≤◌, ◌<◌, ◌^◌, ◌⊎◌, ℕ, List, length, Ok, Err, IfOk, true};
 ghost use Rattle.iso_grammar.specs.Grammar as grammar;
 ghost use Rattle.iso_grammar.specs.Lex.{tokens};
 ghost use Rattle.iso_grammar.specs.Reading.{Gives, all_of};
@@ -9,6 +9,7 @@ ghost use Rattle.iso_sql.specs.StatementReading as reading;
 ghost use Rattle.iso_sql.specs.Statements as rule;
 ghost use Rattle.iso_sql.specs.Texts as spec;
 ghost use Rattle.iso_sql.specs.Unbuilt as stage;
+ghost use Rattle.iso_types.specs.declared.head.Head as declared;
 ghost use Rattle.iso_sql.specs.declared.fault.SqlFault as told;
 ghost use Rattle.iso_sql.specs.declared.statement.Statement as meant;
 
@@ -126,3 +127,12 @@ pub fn read_statement(alloc: Global, head: &Head, text: &[u8]) -> Result<Stateme
     let found = tokens_of(alloc, text)?;
     judged(alloc, head, text, found.as_slice())
 }
+
+/// Each text is read as one statement or refused for one reason, over every head, and never both; what is read is sound.
+pub fn exactly_one_answer()
+    ensures one_way { (head : declared.Head) (text : List ℕ) → ((x : meant.Statement) × spec.Reads head text x) ⊎ ((e : told.SqlFault) × spec.IsTold e × spec.Refuses head text e) }
+    ensures not_both { (head : declared.Head) (text : List ℕ) (x : meant.Statement) (e : told.SqlFault) → spec.Reads head text x → spec.IsTold e → spec.Refuses head text e → ⊥ }
+    ensures one_statement { (head : declared.Head) (text : List ℕ) (x y : meant.Statement) → spec.Reads head text x → spec.Reads head text y → x ≡ y }
+    ensures one_fault { (head : declared.Head) (text : List ℕ) (e f : told.SqlFault) → spec.IsTold e → spec.IsTold f → spec.Refuses head text e → spec.Refuses head text f → e ≡ f }
+    ensures sound { (head : declared.Head) (text : List ℕ) (x : meant.Statement) → spec.Reads head text x → is_sound_statement head x ≡ true }
+{}
