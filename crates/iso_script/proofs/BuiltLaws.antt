@@ -1,9 +1,9 @@
 -- A script that is read has the form that the run relies on.
-use Rattle.std.proofs.Common.{◌≡◌, ℕ, ◌+◌, ◌≤◌, ◌<◌, Bool, true, false, not, cond, List, [], ◌∷◌, ◌++◌, length, map, Option, Some, None, refl, sym, ap, subst, ◌∙◌, inl, inr, length-append, arith}
+use Rattle.std.proofs.Common.{◌≡◌, ℕ, ◌+◌, ◌≤◌, ◌<◌, Bool, true, false, not, cond, List, [], ◌∷◌, ◌++◌, length, Option, Some, None, refl, sym, ap, subst, ◌∙◌, inl, inr, length-append, arith}
 use Rattle.std.specs.Prelude.{MatchBool, ◌&&◌, ◌==◌, ◌||◌, find, nat_lt, nat_le, slice_get, is_some}
 use Rattle.std.specs.List.{list_all}
-use Rattle.std.specs.Option.{option_map, option_map_or}
-use Rattle.std.proofs.lemmas.Bool.{lt-ltb, ltb-true, leb-false, eqb-true}
+use Rattle.std.specs.Option.{option_map_or}
+use Rattle.std.proofs.lemmas.Bool.{ltb-true, leb-false, eqb-true}
 use Rattle.std.proofs.lemmas.List.Folds.{list_all-append}
 use Rattle.std.proofs.lemmas.Option.{slice_get_within}
 use Rattle.iso_types.specs.declared.head.ConnDef.{ConnDef}
@@ -20,7 +20,7 @@ use Rattle.iso_grammar.specs.declared.token.Token.{Token}
 use Rattle.iso_grammar.specs.Faults.{at, checked, least, unless}
 use Rattle.iso_grammar.specs.Lex.{is_skipped, tokens}
 use Rattle.iso_grammar.specs.Lines as text
-use Rattle.iso_script.specs.Built.{IsBuilt, is_built_statement, is_built_what, is_built_line, is_fitting, is_open_behind, is_commit}
+use Rattle.iso_script.specs.Built.{IsBuilt, is_built_statement, is_built_line, is_fitting, is_open_behind, is_commit}
 use Rattle.iso_script.specs.declared.script.Line.{Line}
 use Rattle.iso_script.specs.declared.script.Script.{Script}
 use Rattle.iso_script.specs.declared.script.What.{What}
@@ -32,7 +32,7 @@ use Rattle.iso_script.specs.declared.reader.Place.{Place}
 use Rattle.iso_script.specs.declared.reader.Place.TheVariants as place
 use Rattle.iso_script.specs.declared.reader.Reader.{Reader}
 use Rattle.iso_script.specs.declared.words.ColumnWords.{ColumnWords}
-use Rattle.iso_script.specs.Advance.{advance, with_head, with_setting, with_set}
+use Rattle.iso_script.specs.Advance.{advance, with_head, with_setting}
 use Rattle.iso_script.specs.Naming.{declared_fault, has_table, connection_place, connection_fault, connection_of, is_connection, places}
 use Rattle.iso_sql.specs.Names.{gives}
 use Rattle.iso_script.specs.Events.{columns_fault, configured, declared, table_fault, connected, stated, expired, pictured, plain, whole_line}

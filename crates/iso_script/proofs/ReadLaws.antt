@@ -1,5 +1,5 @@
 -- Lines one after the other.
-use Rattle.std.proofs.Common.{◌≡◌, ℕ, ◌+◌, Bool, true, false, cond, List, [], ◌∷◌, length, Option, Some, None, Result, Ok, Err, refl, sym, subst, ap, ◌∙◌, ◌⊎◌, inl, inr}
+use Rattle.std.proofs.Common.{◌≡◌, ℕ, ◌+◌, Bool, true, false, cond, List, ◌∷◌, length, Option, Some, None, Result, Ok, Err, refl, sym, subst, ap, ◌∙◌, ◌⊎◌, inl, inr}
 use Rattle.std.specs.Prelude.{MatchBool}
 use Rattle.iso_grammar.specs.declared.fault.Checked.{Checked}
 use Rattle.iso_grammar.specs.declared.fault.Fault.{Fault}
@@ -17,7 +17,7 @@ use Rattle.iso_script.specs.declared.fault.ScriptFault.{ScriptFault}
 use Rattle.iso_script.specs.declared.fault.ScriptFault.TheVariants as fault
 use Rattle.iso_script.specs.Advance.{advance}
 use Rattle.iso_script.specs.Rules.{rule}
-use Rattle.iso_script.specs.Reading.{cause_of, fits, wrong, IsMisspelt, IsFaulty, IsUnbuilt, ReadsFrom, BadFrom, Refuses, start}
+use Rattle.iso_script.specs.Reading.{cause_of, fits, wrong, IsMisspelt, IsFaulty, ReadsFrom, BadFrom, Refuses, start}
 use Rattle.iso_script.specs.Steps.{verdict, LineAnswers}
 use Rattle.iso_script.specs.Unbuilt.{is_built}
 use Rattle.iso_script.proofs.RuleLaws.{rule_meaning, rule_way, rule_apart, rule_place}

@@ -1,5 +1,5 @@
 -- A script that is read is sound.
-use Rattle.std.proofs.Common.{◌≡◌, ℕ, zero, suc, ◌+◌, ◌≤◌, ◌<◌, Bool, true, false, not, cond, List, [], ◌∷◌, ◌++◌, length, map, Option, Some, None, refl, sym, ap, subst, ◌∙◌, inl, inr, append_assoc, length-append, arith}
+use Rattle.std.proofs.Common.{◌≡◌, ℕ, zero, suc, ◌+◌, ◌≤◌, ◌<◌, Bool, true, false, not, cond, List, [], ◌∷◌, ◌++◌, length, map, Option, Some, None, refl, sym, ap, subst, ◌∙◌, inl, inr, append_assoc, arith}
 use Rattle.std.specs.Prelude.{MatchBool, ◌&&◌, ◌||◌, ◌==◌, filter, nat_lt, nat_le, is_some, pos, negsuc, ℤ}
 use Rattle.std.specs.List.{list_all, list_any}
 use Rattle.std.specs.Option.{option_map_or}
@@ -14,9 +14,7 @@ use Rattle.iso_types.specs.declared.head.Head.{Head}
 use Rattle.iso_types.specs.declared.head.IndexDef.{IndexDef}
 use Rattle.iso_types.specs.declared.head.TableDef.{TableDef}
 use Rattle.iso_types.specs.declared.value.Conn.{Conn}
-use Rattle.iso_types.specs.declared.value.TableId.{TableId}
 use Rattle.iso_grammar.specs.declared.fault.Cause.TheVariants.{Duplicate, Limit}
-use Rattle.iso_grammar.specs.declared.fault.Checked.{Checked}
 use Rattle.iso_grammar.specs.declared.fault.Fault.{Fault}
 use Rattle.iso_grammar.specs.declared.token.Token.{Token}
 use Rattle.iso_grammar.specs.Faults.{checked, least, unless}
@@ -43,14 +41,14 @@ use Rattle.iso_script.specs.declared.words.TypeWords.{TypeWords}
 use Rattle.iso_script.specs.declared.words.TypeWords.TheVariants as ty
 use Rattle.iso_script.specs.Advance.{advance, with_setting}
 use Rattle.iso_script.specs.Built.{IsBuilt, is_built_line, is_built_statement, is_built_what, is_first}
-use Rattle.iso_script.specs.Events.{column_fault, column_of, columns_fault, configured, connect_fault, connected, declared, kind_fault, kind_of, setting_of, setting_value_fault, is_snapshot, snapshots, stated, expired, pictured, plain, table_fault, whole_line, least_of, most_of, is_set, number_fault}
+use Rattle.iso_script.specs.Events.{column_fault, column_of, columns_fault, configured, connect_fault, connected, declared, kind_fault, kind_of, setting_of, setting_value_fault, is_snapshot, snapshots, stated, expired, pictured, plain, table_fault, whole_line, least_of, most_of, is_set}
 use Rattle.iso_script.specs.Keyed.{index_words, indexed, rowed}
 use Rattle.iso_script.specs.Naming.{declared_fault, has_connection, has_table, named, ranged, ranged_or_low, within}
 use Rattle.iso_script.specs.Numbered.{rises_above}
 use Rattle.iso_script.specs.Reading.{fits, ReadsFrom, reads, start}
-use Rattle.iso_script.specs.Rules.{rule, separated, column}
-use Rattle.iso_script.specs.Sound.{IsSound, IsSoundHead, are_new, is_sound_column, is_sound_config, is_sound_connection, is_sound_index, is_sound_kind, is_sound_line, is_sound_table, is_sound_what}
-use Rattle.iso_script.proofs.BuiltLaws.{none_is, false_true, and_left, and_right, or_left, or_right, value_is, fault_is, no_least_left, no_least_right, all_well, all_snoc, is_false, reads-built}
+use Rattle.iso_script.specs.Rules.{rule}
+use Rattle.iso_script.specs.Sound.{IsSound, are_new, is_sound_column, is_sound_config, is_sound_connection, is_sound_index, is_sound_kind, is_sound_line, is_sound_table, is_sound_what}
+use Rattle.iso_script.proofs.BuiltLaws.{none_is, false_true, and_left, and_right, or_left, value_is, fault_is, no_least_left, no_least_right, all_well, all_snoc, is_false, reads-built}
 use Rattle.iso_script.proofs.NumberLaws.{reads-rising}
 
 -- ---- names

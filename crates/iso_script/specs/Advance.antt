@@ -1,10 +1,7 @@
 -- What a line does to what was read before it.
-use Rattle.std.specs.Prelude.{ℕ, Bool, true, not, List, [], ◌∷◌, ◌++◌}
+use Rattle.std.specs.Prelude.{ℕ, true, not, [], ◌∷◌, ◌++◌}
 use Rattle.iso_types.specs.declared.head.Config.{Config}
 use Rattle.iso_types.specs.declared.head.Head.{Head}
-use Rattle.iso_script.specs.declared.script.Line.{Line}
-use Rattle.iso_script.specs.declared.script.Script.{Script}
-use Rattle.iso_script.specs.declared.script.What.{What}
 use Rattle.iso_script.specs.declared.event.Event.{Event}
 use Rattle.iso_script.specs.declared.event.Event.TheVariants as event
 use Rattle.iso_script.specs.declared.event.Setting.{Setting}

@@ -1,8 +1,7 @@
 -- What the lines of a script stand for, and what is wrong with them.
 -- // this project's own, but for the column types and the isolation levels (Db2 LUW, 'Isolation levels')
 use Rattle.std.specs.List.{list_any}
-use Rattle.std.specs.Option.{option_map_or}
-use Rattle.std.specs.Prelude.{ℕ, Bool, true, false, not, ◌&&◌, ◌||◌, if◌then◌else◌, List, [], ◌∷◌, ◌++◌, map, length, filter, nat_lt, nat_le, is_some, Option, Some, None}
+use Rattle.std.specs.Prelude.{ℕ, Bool, true, false, not, ◌||◌, if◌then◌else◌, List, [], ◌∷◌, ◌++◌, map, length, filter, nat_lt, nat_le, is_some, Option, Some, None}
 use Rattle.iso_types.specs.declared.head.Column.{Column}
 use Rattle.iso_types.specs.declared.head.ColumnKind.{ColumnKind}
 use Rattle.iso_types.specs.declared.head.ColumnKind.TheVariants as kind
@@ -25,7 +24,6 @@ use Rattle.iso_script.specs.declared.event.Event.TheVariants as event
 use Rattle.iso_script.specs.declared.event.Setting.{Setting}
 use Rattle.iso_script.specs.declared.event.Setting.TheVariants as setting
 use Rattle.iso_script.specs.declared.event.Settings.{Settings}
-use Rattle.iso_script.specs.declared.reader.Reader.{Reader}
 use Rattle.iso_script.specs.declared.words.ColumnWords.{ColumnWords}
 use Rattle.iso_script.specs.declared.words.SettingName.{SettingName}
 use Rattle.iso_script.specs.declared.words.SettingName.TheVariants as name

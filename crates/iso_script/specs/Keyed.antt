@@ -2,8 +2,8 @@
 -- // Db2 LUW, 'Assignments and comparisons', 'Unique indexes'; the limits are this project's own
 use Rattle.std.specs.List.{list_any}
 use Rattle.std.specs.Option.{option_map_or}
-use Rattle.std.specs.Prelude.{ℕ, Bool, true, false, not, ◌&&◌, ◌||◌, if◌then◌else◌, List, [], ◌∷◌, map, length, filter, nat_le, slice_index_or, is_some, Option, Some, None}
-use Rattle.iso_types.specs.Head.{is_null, rows_of}
+use Rattle.std.specs.Prelude.{ℕ, Bool, true, false, not, ◌&&◌, ◌||◌, if◌then◌else◌, List, [], ◌∷◌, length, filter, nat_le, slice_index_or, is_some, Option, Some, None}
+use Rattle.iso_types.specs.Head.{is_null}
 use Rattle.iso_types.specs.Ids.{table_eq}
 use Rattle.iso_types.specs.Value.{value_eq}
 use Rattle.iso_types.specs.declared.head.Column.{Column}

@@ -1,7 +1,7 @@
 -- What the names and numbers of a line mean.
 use Rattle.std.specs.List.{list_any}
 use Rattle.std.specs.Option.{option_map_or}
-use Rattle.std.specs.Prelude.{ℕ, Bool, true, false, not, ◌&&◌, if◌then◌else◌, List, [], ◌∷◌, find, nat_le, slice_get, is_some, ℤ, pos, negsuc, Option, Some, None}
+use Rattle.std.specs.Prelude.{ℕ, Bool, false, not, ◌&&◌, if◌then◌else◌, List, [], ◌∷◌, find, nat_le, slice_get, is_some, ℤ, pos, negsuc, Option, Some, None}
 use Rattle.iso_types.specs.declared.head.Head.{Head}
 use Rattle.iso_types.specs.declared.value.Conn.{Conn}
 use Rattle.iso_grammar.specs.declared.fault.Cause.TheVariants.{Duplicate, Limit, Unknown}

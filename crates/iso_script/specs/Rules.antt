@@ -1,5 +1,5 @@
 -- The lines of a script: what may stand in each position. // this project's own
-use Rattle.std.specs.Prelude.{ℕ, Bool, true, false, List, [], ◌∷◌, Option}
+use Rattle.std.specs.Prelude.{ℕ, Bool, true, false, List, ◌∷◌, Option}
 use Rattle.iso_types.specs.declared.head.Isolation.{Isolation}
 use Rattle.iso_types.specs.declared.head.Isolation.TheVariants as level
 use Rattle.iso_grammar.specs.declared.fault.Checked.{Checked}

@@ -3,8 +3,8 @@
 -- // Db2 LUW, 'Assignments and comparisons', 'Unique indexes'; the limits are this project's own
 use Rattle.std.specs.List.{list_all, list_any}
 use Rattle.std.specs.Option.{option_map_or}
-use Rattle.std.specs.Prelude.{◌≡◌, ◌≤◌, ℕ, Bool, true, false, not, ◌&&◌, ◌||◌, List, [], ◌∷◌, ◌++◌, map, length, nat_le, slice_get, Option, Some, None}
-use Rattle.iso_types.specs.Head.{is_conn, is_table}
+use Rattle.std.specs.Prelude.{◌≡◌, ◌≤◌, ℕ, Bool, true, false, not, ◌&&◌, List, [], ◌∷◌, ◌++◌, map, length, nat_le, slice_get, Option, Some, None}
+use Rattle.iso_types.specs.Head.{is_conn}
 use Rattle.iso_types.specs.Ids.{text_eq}
 use Rattle.iso_types.specs.declared.head.Column.{Column}
 use Rattle.iso_types.specs.declared.head.ColumnKind.{ColumnKind}
