@@ -4,8 +4,9 @@ use Rattle.std.proofs.lemmas.Bool.{le-leb, leb-true}
 use Rattle.std.specs.Option.{option_map_or}
 use Rattle.std.specs.Prelude.{Some, None, Option, not, ◌&&◌, if◌then◌else◌, nat_le, slice_get}
 use Rattle.iso_predicate.proofs.Fitting.{and_first, and_second}
-use Rattle.iso_predicate.specs.Assigned.{Fault, OverflowIsOfNumbers, evaluated, fault_in, is_integer, reads_column, takes, takes_kind}
+use Rattle.iso_predicate.specs.Assigned.{Fault, OverflowIsOfNumbers, evaluated, fault_in, reads_column}
 use Rattle.iso_predicate.specs.Truth.{value_at}
+use Rattle.iso_sql.specs.Sound.{is_assignable, is_number, is_sound_expr}
 use Rattle.iso_sql.specs.declared.statement.Assignment.{Assignment}
 use Rattle.iso_sql.specs.declared.statement.Expr.{Expr}
 use Rattle.iso_types.specs.Head.{all_fit, fits_column, fits_kind, is_null}
@@ -44,14 +45,18 @@ text_fits n m (Text s) le e =
 
 -- an overflow of a column that is set to an expression that it takes
 of_numbers : (columns : List Column) (c : Column) (e : Expr) (row : List Value)
-    → takes columns c.kind e ≡ true → all_fit columns row ≡ true → fault_in c (evaluated row e) ≡ Some Fault.Overflow
-    → (reads_column e ≡ true) × (is_integer c.kind ≡ true)
+    → is_sound_expr columns e c.kind ≡ true → all_fit columns row ≡ true → fault_in c (evaluated row e) ≡ Some Fault.Overflow
+    → (reads_column e ≡ true) × (is_number c.kind ≡ true)
 of_numbers columns c (Expr.Literal v) row ok fit over = absurd (no_overflow c v ok over)
 of_numbers columns c (Expr.Sum k n) row ok fit over =
-    (refl, and_first (is_integer c.kind) (option_map_or (λ d. is_integer d.kind) (slice_get columns k) false) ok)
+    (refl, target (slice_get columns k) ok)
+  where
+    target : (o : Option Column) → option_map_or (λ (d : Column). is_number d.kind && is_number c.kind) o false ≡ true → is_number c.kind ≡ true
+    target None t = absurd (cc)
+    target (Some d) t = and_second (is_number d.kind) (is_number c.kind) t
 of_numbers columns c (Expr.Column k) row ok fit over = (refl, go (slice_get columns k) refl ok)
   where
-    kinds : (a b : ColumnKind) → a ≡ c.kind → takes_kind a b ≡ true → fits_kind b (value_at row k) ≡ true → is_integer a ≡ true
+    kinds : (a b : ColumnKind) → a ≡ c.kind → is_assignable b a ≡ true → fits_kind b (value_at row k) ≡ true → is_number a ≡ true
     kinds Integer b same t f = refl
     kinds Bigint b same t f = refl
     kinds (Varchar n) Integer same t f = absurd (cc)
@@ -59,15 +64,15 @@ of_numbers columns c (Expr.Column k) row ok fit over = (refl, go (slice_get colu
     kinds (Varchar n) (Varchar m) same t f =
         absurd (no_overflow c (value_at row k) (rw (← same) (text_fits n m (value_at row k) t f)) over)
 
-    go : (o : Option Column) → slice_get columns k ≡ o → option_map_or (λ d. takes_kind c.kind d.kind) o false ≡ true → is_integer c.kind ≡ true
+    go : (o : Option Column) → slice_get columns k ≡ o → option_map_or (λ d. is_assignable d.kind c.kind) o false ≡ true → is_number c.kind ≡ true
     go None is t = absurd (cc)
     go (Some d) is t = kinds c.kind d.kind refl t (all_fit-at columns row k d fit is)
 
 pub overflow_is_of_numbers : (columns : List Column) (a : Assignment) (row : List Value) → OverflowIsOfNumbers columns a row
 overflow_is_of_numbers columns a row sound fit = go (slice_get columns a.column) sound
   where
-    go : (o : Option Column) → option_map_or (λ column. takes columns column.kind a.expr) o false ≡ true
+    go : (o : Option Column) → option_map_or (λ (c : Column). is_sound_expr columns a.expr c.kind) o false ≡ true
         → option_map_or (λ column. fault_in column (evaluated row a.expr)) o None ≡ Some Fault.Overflow
-        → (reads_column a.expr ≡ true) × (option_map_or (λ column. is_integer column.kind) o false ≡ true)
+        → (reads_column a.expr ≡ true) × (option_map_or (λ column. is_number column.kind) o false ≡ true)
     go None ok over = absurd (cc)
     go (Some c) ok over = of_numbers columns c a.expr row ok fit over

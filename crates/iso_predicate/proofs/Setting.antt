@@ -7,10 +7,11 @@ use Rattle.std.proofs.lemmas.List.{drop_all}
 use Rattle.std.proofs.lemmas.Option.{slice_get_within}
 use Rattle.std.specs.List.{enumerate_from}
 use Rattle.std.specs.Option.{option_map_or}
-use Rattle.std.specs.Prelude.{◌==◌, map, Some, None, Err, Ok, Option, Result, nat_lt, slice_get, slice_index_or, slice_set}
+use Rattle.std.specs.Prelude.{◌==◌, ◌&&◌, map, Some, None, Err, Ok, Option, Result, nat_lt, slice_get, slice_index_or, slice_set}
 use Rattle.iso_predicate.proofs.Fitting.{and_second}
-use Rattle.iso_predicate.specs.Assigned.{Answers, Fault, are_sound, evaluated, fault_in, fault_of, is_integer, is_sound_assignment, new_value, takes, takes_kind}
+use Rattle.iso_predicate.specs.Assigned.{Answers, Fault, are_sound, evaluated, fault_in, fault_of, new_value}
 use Rattle.iso_predicate.specs.Walks.{GivesValue, names_within, set_all}
+use Rattle.iso_sql.specs.Sound.{is_assignable, is_number, is_sound_assignment, is_sound_expr}
 use Rattle.iso_sql.specs.declared.statement.Expr.{Expr}
 use Rattle.iso_types.specs.declared.head.ColumnKind.{ColumnKind}
 use Rattle.iso_predicate.specs.declared.assignments.AssignFault.{AssignFault}
@@ -63,7 +64,7 @@ pub sound_column : (columns : List Column) (a : Assignment) → is_sound_assignm
 sound_column columns a sound = go (slice_get columns a.column) refl sound
   where
     go : (o : Option Column) → slice_get columns a.column ≡ o
-        → option_map_or (λ column. takes columns column.kind a.expr) o false ≡ true → a.column < length columns
+        → option_map_or (λ (c : Column). is_sound_expr columns a.expr c.kind) o false ≡ true → a.column < length columns
     go None e q = absurd (cc)
     go (Some d) e q = slice_get_within columns a.column d e
 
@@ -75,18 +76,17 @@ there columns k f q = go (slice_get columns k) refl q
     go None e r = absurd (cc)
     go (Some d) e r = lt-ltb k (length columns) (slice_get_within columns k d e)
 
-names_of : (columns : List Column) (kind : ColumnKind) (e : Expr) → takes columns kind e ≡ true → names_within (length columns) e ≡ true
+names_of : (columns : List Column) (kind : ColumnKind) (e : Expr) → is_sound_expr columns e kind ≡ true → names_within (length columns) e ≡ true
 names_of columns kind (Expr.Literal v) q = refl
-names_of columns kind (Expr.Column k) q = there columns k (λ d. takes_kind kind d.kind) q
-names_of columns kind (Expr.Sum k n) q =
-    there columns k (λ d. is_integer d.kind) (and_second (is_integer kind) (option_map_or (λ d. is_integer d.kind) (slice_get columns k) false) q)
+names_of columns kind (Expr.Column k) q = there columns k (λ d. is_assignable d.kind kind) q
+names_of columns kind (Expr.Sum k n) q = there columns k (λ d. is_number d.kind && is_number kind) q
 
 -- the column that a sound assignment reads is there
 pub sound_names : (columns : List Column) (a : Assignment) (width : ℕ)
     → is_sound_assignment columns a ≡ true → length columns ≡ width → names_within width a.expr ≡ true
 sound_names columns a width sound is = rw (← is) (go (slice_get columns a.column) sound)
   where
-    go : (o : Option Column) → option_map_or (λ column. takes columns column.kind a.expr) o false ≡ true
+    go : (o : Option Column) → option_map_or (λ (c : Column). is_sound_expr columns a.expr c.kind) o false ≡ true
         → names_within (length columns) a.expr ≡ true
     go None q = absurd (cc)
     go (Some d) q = names_of columns d.kind a.expr q

@@ -5,6 +5,7 @@ use Rattle.std.specs.Option.{option_map_or, option_or}
 use Rattle.std.specs.Prelude.{◌≡◌, ℕ, Bool, true, false, not, ◌&&◌, ◌==◌, List, [], ◌∷◌, ℤ, ◌+ℤ◌, map, zip, if◌then◌else◌, nat_le, slice_get, Some, None, Ok, Err, Option, Result}
 use Rattle.iso_predicate.specs.Truth.{value_at}
 use Rattle.iso_predicate.specs.declared.assignments.AssignFault.{AssignFault}
+use Rattle.iso_sql.specs.Sound.{is_number, is_sound_assignment}
 use Rattle.iso_sql.specs.declared.statement.Assignment.{Assignment}
 use Rattle.iso_sql.specs.declared.statement.Expr.{Expr}
 use Rattle.iso_types.specs.Head.{all_fit, fits_kind, is_null}
@@ -70,29 +71,7 @@ Answers told (Err AssignFault.Overflow) = told ≡ Err Overflow
 Answers told (Err AssignFault.NullFault) = told ≡ Err NullFault
 Answers told (Err AssignFault.Memory) = Unit {0}
 
--- a column of the first kind may be set from one of the second: integers from integers, a text from one of no greater length
-abbrev pub takes_kind : ColumnKind → ColumnKind → Bool
-takes_kind (Varchar n) (Varchar m) = nat_le m n
-takes_kind (Varchar n) _ = false
-takes_kind _ (Varchar m) = false
-takes_kind _ _ = true
-
--- the column holds integers
-abbrev pub is_integer : ColumnKind → Bool
-is_integer (Varchar n) = false
-is_integer _ = true
-
--- a column of this kind may be set to the expression; NULL is no matter of its type // Db2 LUW, 'Assignments and comparisons'
-abbrev pub takes : List Column → ColumnKind → Expr → Bool
-takes columns kind (Expr.Literal v) = fits_kind kind v
-takes columns kind (Expr.Column k) = option_map_or (λ d. takes_kind kind d.kind) (slice_get columns k) false
-takes columns kind (Expr.Sum k n) = is_integer kind && option_map_or (λ d. is_integer d.kind) (slice_get columns k) false
-
--- the assignment names columns of the table, and keeps to its types
-abbrev pub is_sound_assignment : List Column → Assignment → Bool
-is_sound_assignment columns a = option_map_or (λ column. takes columns column.kind a.expr) (slice_get columns a.column) false
-
--- each assignment does
+-- each assignment names columns of the table, and keeps to its types
 abbrev pub are_sound : List Column → List Assignment → Bool
 are_sound columns sets = list_all (is_sound_assignment columns) sets
 
@@ -109,4 +88,4 @@ reads_column _ = true
 abbrev pub OverflowIsOfNumbers : List Column → Assignment → List Value → Type 0
 OverflowIsOfNumbers columns a row =
     is_sound_assignment columns a ≡ true → all_fit columns row ≡ true → fault_of columns row a ≡ Some Overflow
-    → (reads_column a.expr ≡ true) × (option_map_or (λ column. is_integer column.kind) (slice_get columns a.column) false ≡ true)
+    → (reads_column a.expr ≡ true) × (option_map_or (λ column. is_number column.kind) (slice_get columns a.column) false ≡ true)
