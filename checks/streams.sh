@@ -12,7 +12,7 @@ told=$("$program" serial <"$script"); want "the first script" 0 $?
 [ "$told" = "$(cat "$top/examples/first.transcript")" ] || { echo "streams: the first script's transcript differs"; bad=1; }
 if [ -w /dev/full ]; then
     "$program" serial <"$script" >/dev/full 2>/dev/null; want "a full device" 4 $?
-    printf 'DB2ISO 1\nBEGIN\nEND\n' | "$program" serial >/dev/full 2>/dev/null; want "a refused script on a full device" 2 $?
+    printf 'DB2ISO 1\nBEGIN\n' | "$program" serial >/dev/full 2>/dev/null; want "a refused script on a full device" 2 $?
     "$program" >/dev/full 2>/dev/null </dev/null; want "wrong words on a full device" 1 $?
 fi
 "$program" serial </ >/dev/null 2>/dev/null; want "a folder as input" 3 $?

@@ -25,16 +25,11 @@ const EMPTY_TOLD: &[u8] =
     b"5 A SQLCODE 100\n6 A SQLCODE 0 ROWS 1\n7 A ROW NULL\n7 A SQLCODE 0\n8 A SQLCODE 0\nEND\n";
 
 // The words, the script, what is written, and the status.
-const CASES: [(&[&str], &[u8], &[u8], u8); 11] = [
+const CASES: [(&[&str], &[u8], &[u8], u8); 25] = [
     (&["serial"], FIRST, TOLD, 0),
     (&["serial"], LOOSE, LOOSELY_TOLD, 0),
     (&["serial"], EMPTY, EMPTY_TOLD, 0),
-    (
-        &["serial"],
-        b"DB2ISO 1\nBEGIN\nEND\n",
-        b"END\n",
-        0,
-    ),
+    (&["serial"], b"DB2ISO 1\nBEGIN\nEND\n", b"END\n", 0),
     (
         &["serial"],
         b"DB2ISO 1\nTABLE T (N INTEGER)\nCONNECT A\nBEGIN\nA: INSERT INTO T VALUES (7)\nA: SELECT N FROM T WITH UR\nA: COMMIT\n",
@@ -47,6 +42,85 @@ const CASES: [(&[&str], &[u8], &[u8], u8); 11] = [
     (&["run"], FIRST, b"USAGE\n", 1),
     (&[""], FIRST, b"USAGE\n", 1),
     (&["serial"], b"", b"LINE 1 SYNTAX AT 1\n", 2),
+    (
+        &["serial"],
+        b"DB2ISO 1\nTABLE T (ID INTEGER, V INTEGER)\nROW T (1, 100)\nROW T (2, NULL)\nCONNECT A\nBEGIN\nA: SELECT ID FROM T WHERE NOT V = 7 WITH UR\nA: SELECT COUNT(*) FROM T WHERE V IS NULL OR ID > 5 WITH UR\nA: COMMIT\nEND\n",
+        b"7 A ROW 1\n7 A SQLCODE 0\n8 A ROW 1\n8 A SQLCODE 0\n9 A SQLCODE 0\nEND\n",
+        0,
+    ),
+    (
+        &["serial"],
+        b"DB2ISO 1\nTABLE U (K BIGINT)\nTABLE T (ID INTEGER NOT NULL, V VARCHAR(8))\nROW T (1, 'it''s')\nROW U (9223372036854775807)\nCONNECT A\nBEGIN\nA: INSERT INTO T VALUES (NULL, 'x')\nA: INSERT INTO T (V, ID) VALUES ('y', 2)\nA: SELECT * FROM T WITH UR\nA: SELECT K FROM U WHERE K > 5 WITH UR\nA: SELECT V, ID FROM T WHERE ID BETWEEN 2 AND 3 WITH UR\nA: INSERT INTO T (ID) VALUES (3)\nA: SELECT V FROM T WHERE V IS NULL WITH UR\nA: COMMIT\nEND\n",
+        b"8 A SQLCODE -407\n9 A SQLCODE 0 ROWS 1\n10 A ROW 1, 'it''s'\n10 A ROW 2, 'y'\n10 A SQLCODE 0\n11 A ROW 9223372036854775807\n11 A SQLCODE 0\n12 A ROW 'y', 2\n12 A SQLCODE 0\n13 A SQLCODE 0 ROWS 1\n14 A ROW NULL\n14 A SQLCODE 0\n15 A SQLCODE 0\nEND\n",
+        0,
+    ),
+    (
+        &["serial"],
+        b"DB2ISO 1\nTABLE T (ID INTEGER)\nCONNECT A\nBEGIN\nA: SELECT COUNT(*) FROM T WITH UR\nA: SELECT * FROM T WITH UR\nA: COMMIT\nEND\n",
+        b"5 A ROW 0\n5 A SQLCODE 0\n6 A SQLCODE 100\n7 A SQLCODE 0\nEND\n",
+        0,
+    ),
+    (
+        &["serial"],
+        b"DB2ISO 1\nCONNECT A\nBEGIN\nEND\n",
+        b"END\n",
+        0,
+    ),
+    (
+        &["serial"],
+        b"DB2ISO 1\nTABLE T (ID INTEGER",
+        b"LINE 2 SYNTAX AT 20\n",
+        2,
+    ),
+    (&["serial"], b"DB2ISO 1\nBEGIN", b"LINE 3 SYNTAX AT 1\n", 2),
+    (
+        &["serial"],
+        b"DB2ISO 1\nTABLE T (N VARCHAR(32))\nROW T ('ABCDEFGHIJKLMNOPQRSTUVWXYZABCDEFG')",
+        b"LINE 3 TYPE AT 8\n",
+        2,
+    ),
+    (
+        &["serial"],
+        b"DB2ISO 1\nTABLE T (N VARCHAR(32))\nCONNECT A\nBEGIN\nA: DELETE FROM T WHERE N = 'ABCDEFGHIJKLMNOPQRSTUVWXYZABCDEFG'",
+        b"LINE 5 LIMIT AT 28\n",
+        2,
+    ),
+    (
+        &["serial"],
+        b"DB2ISO 1\nCONNECT A\nBEGIN\nA: SELECT * FROM T\nEND",
+        b"LINE 4 UNKNOWN AT 18\n",
+        2,
+    ),
+    (
+        &["serial"],
+        b"DB2ISO 1\nCONNECT A\nCONNECT A",
+        b"LINE 3 DUPLICATE AT 9\n",
+        2,
+    ),
+    (
+        &["serial"],
+        b"DB2ISO 1\nTABLE T (N INTEGER)\nROW T ('x')",
+        b"LINE 3 TYPE AT 8\n",
+        2,
+    ),
+    (
+        &["serial"],
+        b"DB2ISO 1\nTABLE T (ID INTEGER, V INTEGER)\nROW T (1, 100)\nROW T (2, NULL)\nCONNECT A\nBEGIN\nA: SELECT ID FROM T WHERE V > NULL WITH UR\n",
+        b"LINE 7 SYNTAX AT 31\n",
+        2,
+    ),
+    (
+        &["serial"],
+        b"DB2ISO 1\nTABLE T (N INTEGER)\nCONNECT A\nBEGIN\nA: DELETE FROM T\nA: COMMIT\nEND\n",
+        b"LINE 5 UNBUILT AT 1\n",
+        2,
+    ),
+    (
+        &["serial"],
+        b"DB2ISO 1\nTABLE T (N INTEGER)\nCONNECT A\nBEGIN\nA: INSERT INTO T VALUES (7)\nEND\n",
+        b"LINE 6 UNBUILT AT 1\n",
+        2,
+    ),
 ];
 
 // The status for these words and streams, and the number of entries.

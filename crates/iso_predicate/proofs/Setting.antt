@@ -8,7 +8,6 @@ use Rattle.std.proofs.lemmas.Option.{slice_get_within}
 use Rattle.std.specs.List.{enumerate_from}
 use Rattle.std.specs.Option.{option_map_or}
 use Rattle.std.specs.Prelude.{◌==◌, ◌&&◌, map, Some, None, Err, Ok, Option, Result, nat_lt, slice_get, slice_index_or, slice_set}
-use Rattle.iso_predicate.proofs.Fitting.{and_second}
 use Rattle.iso_predicate.specs.Assigned.{Answers, Fault, are_sound, evaluated, fault_in, fault_of, new_value}
 use Rattle.iso_predicate.specs.Walks.{GivesValue, names_within, set_all}
 use Rattle.iso_sql.specs.Sound.{is_assignable, is_number, is_sound_assignment, is_sound_expr}

@@ -2,7 +2,7 @@
 -- // Db2 LUW documentation, SQL reference: 'Assignments and comparisons', 'UPDATE statement'
 use Rattle.std.specs.List.{enumerate_from, list_all, list_any}
 use Rattle.std.specs.Option.{option_map_or, option_or}
-use Rattle.std.specs.Prelude.{◌≡◌, ℕ, Bool, true, false, not, ◌&&◌, ◌==◌, List, [], ◌∷◌, ℤ, ◌+ℤ◌, map, zip, if◌then◌else◌, nat_le, slice_get, Some, None, Ok, Err, Option, Result}
+use Rattle.std.specs.Prelude.{◌≡◌, ℕ, Bool, true, false, not, ◌&&◌, ◌==◌, List, [], ◌∷◌, ℤ, ◌+ℤ◌, map, zip, if◌then◌else◌, slice_get, Some, None, Ok, Err, Option, Result}
 use Rattle.iso_predicate.specs.Truth.{value_at}
 use Rattle.iso_predicate.specs.declared.assignments.AssignFault.{AssignFault}
 use Rattle.iso_sql.specs.Sound.{is_number, is_sound_assignment}
@@ -10,8 +10,6 @@ use Rattle.iso_sql.specs.declared.statement.Assignment.{Assignment}
 use Rattle.iso_sql.specs.declared.statement.Expr.{Expr}
 use Rattle.iso_types.specs.Head.{all_fit, fits_kind, is_null}
 use Rattle.iso_types.specs.declared.head.Column.{Column}
-use Rattle.iso_types.specs.declared.head.ColumnKind.{ColumnKind}
-use Rattle.iso_types.specs.declared.head.ColumnKind.TheVariants.{Varchar}
 use Rattle.iso_types.specs.declared.value.Value.{Value}
 use Rattle.iso_types.specs.declared.value.Value.TheVariants.{Int}
 
