@@ -14,3 +14,4 @@ pub mod LineLemmas
 pub mod ScriptLaws
 pub mod Numbers
 pub mod Folds
+pub mod Rising

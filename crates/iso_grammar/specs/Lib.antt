@@ -7,3 +7,4 @@ pub mod Lines
 pub mod Script
 pub mod Values
 pub mod Faults
+pub mod Order

@@ -1,8 +1,9 @@
 //! Cuts a line into tokens.
 
-ghost use Rattle.std.specs.Prelude.{IsTrue, ◌≡◌, ◌<◌, ◌≤◌, ◌+◌, ◌^◌, map, length, drop, slice_index, IfOk, IfSome, false};
+ghost use Rattle.std.specs.Prelude.{IsTrue, ℕ, List, ◌≡◌, ◌<◌, ◌≤◌, ◌+◌, ◌^◌, map, length, drop, slice_index, IfOk, IfSome, false};
 ghost use Rattle.std.specs.Str.{str_eq_ignore_ascii_case};
 ghost use Rattle.iso_grammar.specs.Lex as spec;
+ghost use Rattle.iso_grammar.specs.Order.{RisesFrom};
 
 use crate::token::{KEYWORDS, Kind, Token};
 use iso_types::{Items, Memory};
@@ -227,6 +228,12 @@ pub fn tokens_of(alloc: Global, line: &[u8]) -> Result<Items<Token>, Memory>
     }
     Ok(found)
 }
+
+/// Law: the tokens of a line stand from left to right, each behind the last byte of the one before it, the first at place 1
+/// at the least.
+pub fn tokens_rise()
+    ensures { (line : List ℕ) → RisesFrom 0 (spec.tokens line) }
+{}
 
 /// Whether the line begins with two dashes.
 pub fn is_comment(line: &[u8]) -> bool

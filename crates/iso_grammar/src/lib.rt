@@ -9,7 +9,7 @@ mod tokens;
 mod values;
 
 pub use fault::{Cause, Checked, Fault, fault_at, least, place_of, unless};
-pub use lex::{is_comment, tokens_of};
+pub use lex::{is_comment, tokens_of, tokens_rise};
 pub use lines::first_line;
 pub use token::{Kind, Token, same};
 pub use tokens::{ReadError, Tokens};
