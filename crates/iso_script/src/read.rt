@@ -10,6 +10,7 @@ ghost use Rattle.iso_script.specs.declared.script.Script as told;
 ghost use Rattle.iso_script.specs.declared.fault.LineCause.{LineCause as Why};
 
 use crate::fault::{LineCause, ScriptFault};
+use crate::progress::Progress;
 use crate::reader::{Place, Reader};
 use crate::script::Script;
 use iso_grammar::first_line;
@@ -26,17 +27,17 @@ fn read_lines(alloc: Global, bytes: &[u8]) -> Result<Reader, ScriptFault>
     ensures read { IfOk result (λ end. spec.ReadsFrom spec.start 1 (lines bytes.now) end) }
     ensures refused { IfErr result (λ e. spec.Refuses bytes.now e) }
 {
-    let mut reader = Reader::new(alloc);
+    let mut progress = Progress::new(alloc);
     let mut rest = bytes;
     let mut number = 1u32;
     while !rest.is_empty() {
         let (line, behind) = first_line(rest);
-        reader.take_line(alloc, line, number)?;
+        progress.take_line(alloc, line, number)?;
         rest = behind;
         number += 1;
     }
-    if is_ended(&reader) {
-        return Ok(reader);
+    if is_ended(&progress.reader) {
+        return Ok(progress.reader);
     }
     Err(ScriptFault::BadLine(number, LineCause::Syntax(1)))
 }
