@@ -135,7 +135,8 @@ fn row_fault(
     }
 }
 
-/// A ROW line with these values.
+/// A ROW line with these values. `Memory` is want of memory for them. Cost: one look at the rows so far for each
+/// unique index of the table, and none without; else the length of the line, and the names of tables.
 #[tactic(auto, unfolding(crate::specs::Keyed::rowed, iso_sql::specs::Names::table_names))]
 pub fn rowed(
     alloc: Global,
@@ -253,7 +254,7 @@ fn place_in(place: Option<u8>) -> u8
     }
 }
 
-/// An INDEX line.
+/// An INDEX line. Cost: where it is UNIQUE, one look at the rows so far for each row of the table.
 #[tactic(auto, unfolding(crate::specs::Keyed::indexed))]
 pub fn indexed(head: &Head, line: &[u8], words: IndexWords) -> Checked<Event>
     ensures { result ≡ spec.indexed head.now line.now words }

@@ -69,7 +69,8 @@ impl Progress {
         }
     }
 
-    fn advance(&mut self, number: u32, event: Event) -> Result<(), Memory>
+    /// Takes the event of the line with this number. Cost: that of one entry at the end of a list.
+    pub fn advance(&mut self, number: u32, event: Event) -> Result<(), Memory>
         requires kept { IsKept self.old }
         ensures step { OnOk result (self.new.reader ≡ step.advance self.old.reader number event) }
         ensures kept { OnOk result (IsKept self.new) }
@@ -81,7 +82,7 @@ impl Progress {
     }
 
     /// What the tokens of a line say, or where they leave the grammar.
-    fn said(
+    pub fn said(
         &self,
         alloc: Global,
         line: &[u8],
