@@ -5,3 +5,4 @@ pub mod BuiltLaws
 pub mod NumberLaws
 pub mod SoundLaws
 pub mod Exact
+pub mod KeptLaws

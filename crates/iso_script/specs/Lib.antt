@@ -10,3 +10,4 @@ pub mod Sound
 pub mod Reading
 pub mod RuleReading
 pub mod Steps
+pub mod Kept

@@ -1,15 +1,17 @@
 //! What the lines ROW and INDEX stand for, and what is wrong with them: rows, keys and the indexes on them.
 
-ghost use Rattle.std.specs.Prelude.{◌≡◌, length, IfOk};
+ghost use Rattle.std.specs.Prelude.{◌≡◌, length, nat_le, IfOk};
 ghost use Rattle.iso_types.specs.Head.{is_null as null};
 ghost use Rattle.iso_types.specs.Value.{value_eq};
 ghost use Rattle.iso_sql.specs.Names.{names_of, place_in as placed};
 ghost use Rattle.iso_sql.specs.Rows.{stored_row as stored};
+ghost use Rattle.iso_script.specs.Kept.{IsKept};
 ghost use Rattle.iso_script.specs.Keyed as spec;
 
 use crate::event::Event;
 use crate::events::whole_line;
 use crate::naming::{declared_fault, has_index, named};
+use crate::progress::Progress;
 use crate::words::{IndexWords, RowWords};
 use iso_grammar::{Cause, Checked, Fault, Token, fault_at, least, unless};
 use iso_sql::{Scope, scope_of, stored_fault, stored_row, table_of};
@@ -75,82 +77,82 @@ fn repeats_keys(head: &Head, table: TableId, row: &[Value]) -> bool
         .any(|index| repeats_key(rows, table, row, index))
 }
 
-fn own_rows(table: TableId, mut rows: &[FirstRow]) -> usize
-    ensures { result ≡ length (spec.own_rows table rows.entry.now) }
+fn is_full(progress: &Progress, table: TableId) -> bool
+    requires kept { IsKept progress.now }
+    ensures { result ≡ nat_le 65536 (length (spec.own_rows table progress.now.reader.script.head.rows)) }
 {
-    let mut count = 0;
-    while let [first, rest @ ..] = rows {
-        if first.table.0 == table.0 {
-            count += 1;
-        }
-        rows = rest;
-    }
-    count
+    progress.counts[table.0 as usize] >= 65536
 }
 
 #[tactic(auto, unfolding(crate::specs::Keyed::full_fault))]
-fn full_fault(head: &Head, table: TableId) -> Option<Fault>
-    ensures { result ≡ spec.full_fault head.now table }
+fn full_fault(progress: &Progress, table: TableId) -> Option<Fault>
+    requires kept { IsKept progress.now }
+    ensures { result ≡ spec.full_fault progress.now.reader.script.head table }
 {
-    if own_rows(table, head.rows.as_slice()) >= 65536 {
+    if is_full(progress, table) {
         return whole_line();
     }
     None
 }
 
 fn values_fault(
-    head: &Head,
+    progress: &Progress,
     scope: &Scope<'_>,
     words: RowWords,
     table: TableId,
     values: &[Token],
     row: &[Value],
 ) -> Option<Fault>
-    requires { row.now ≡ stored (names_of scope.now).line values.now }
-    ensures { result ≡ spec.values_fault head.now (names_of scope.now).line words.first table (names_of scope.now).columns values.now words.close }
+    requires kept { IsKept progress.now }
+    requires row { row.now ≡ stored (names_of scope.now).line values.now }
+    ensures { result ≡ spec.values_fault progress.now.reader.script.head (names_of scope.now).line words.first table (names_of scope.now).columns values.now words.close }
 {
     let twice = unless(
-        !repeats_keys(head, table, row),
+        !repeats_keys(&progress.reader.script.head, table, row),
         words.first,
         Cause::Duplicate,
     );
     let fit = stored_fault(true, scope.line, scope.columns, values, words.close);
-    least(twice, least(full_fault(head, table), fit))
+    least(twice, least(full_fault(progress, table), fit))
 }
 
 fn row_fault(
-    head: &Head,
+    progress: &Progress,
     scope: &Scope<'_>,
     words: RowWords,
     table: TableId,
     values: &[Token],
     row: &[Value],
 ) -> Option<Fault>
-    requires { row.now ≡ stored (names_of scope.now).line values.now }
-    ensures { result ≡ spec.row_fault head.now (names_of scope.now) words.first words.table table values.now words.close }
+    requires kept { IsKept progress.now }
+    requires row { row.now ≡ stored (names_of scope.now).line values.now }
+    ensures { result ≡ spec.row_fault progress.now.reader.script.head (names_of scope.now) words.first words.table table values.now words.close }
 {
     if scope.known {
-        values_fault(head, scope, words, table, values, row)
+        values_fault(progress, scope, words, table, values, row)
     } else {
         fault_at(words.table, Cause::Unknown)
     }
 }
 
-/// A ROW line with these values.
+/// A ROW line with these values. `Memory` is want of memory for them. Cost: one look at the rows so far for each
+/// unique index of the table, and none without; else the length of the line, and the names of tables.
 #[tactic(auto, unfolding(crate::specs::Keyed::rowed, iso_sql::specs::Names::table_names))]
 pub fn rowed(
     alloc: Global,
-    head: &Head,
+    progress: &Progress,
     line: &[u8],
     words: RowWords,
     values: &[Token],
 ) -> Result<Checked<Event>, Memory>
-    ensures { IfOk result (λ e. e ≡ spec.rowed head.now line.now words.first words.table values.now words.close) }
+    requires { IsKept progress.now }
+    ensures { IfOk result (λ e. e ≡ spec.rowed progress.now.reader.script.head line.now words.first words.table values.now words.close) }
 {
+    let head = &progress.reader.script.head;
     let row = stored_row(alloc, line, values)?;
     let table = table_of(head, line, words.table);
     let scope = scope_of(head, line, words.table);
-    let fault = row_fault(head, &scope, words, table, values, row.as_slice());
+    let fault = row_fault(progress, &scope, words, table, values, row.as_slice());
     Ok(Checked {
         value: Event::Row(FirstRow { table, row }),
         fault,
@@ -252,7 +254,7 @@ fn place_in(place: Option<u8>) -> u8
     }
 }
 
-/// An INDEX line.
+/// An INDEX line. Cost: where it is UNIQUE, one look at the rows so far for each row of the table.
 #[tactic(auto, unfolding(crate::specs::Keyed::indexed))]
 pub fn indexed(head: &Head, line: &[u8], words: IndexWords) -> Checked<Event>
     ensures { result ≡ spec.indexed head.now line.now words }

@@ -6,6 +6,7 @@ mod events;
 mod fault;
 mod keyed;
 mod naming;
+mod progress;
 mod read;
 mod reader;
 mod rules;

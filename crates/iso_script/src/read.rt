@@ -10,6 +10,7 @@ ghost use Rattle.iso_script.specs.declared.script.Script as told;
 ghost use Rattle.iso_script.specs.declared.fault.LineCause.{LineCause as Why};
 
 use crate::fault::{LineCause, ScriptFault};
+use crate::progress::Progress;
 use crate::reader::{Place, Reader};
 use crate::script::Script;
 use iso_grammar::first_line;
@@ -26,17 +27,17 @@ fn read_lines(alloc: Global, bytes: &[u8]) -> Result<Reader, ScriptFault>
     ensures read { IfOk result (λ end. spec.ReadsFrom spec.start 1 (lines bytes.now) end) }
     ensures refused { IfErr result (λ e. spec.Refuses bytes.now e) }
 {
-    let mut reader = Reader::new(alloc);
+    let mut progress = Progress::new(alloc);
     let mut rest = bytes;
     let mut number = 1u32;
     while !rest.is_empty() {
         let (line, behind) = first_line(rest);
-        reader.take_line(alloc, line, number)?;
+        progress.take_line(alloc, line, number)?;
         rest = behind;
         number += 1;
     }
-    if is_ended(&reader) {
-        return Ok(reader);
+    if is_ended(&progress.reader) {
+        return Ok(progress.reader);
     }
     Err(ScriptFault::BadLine(number, LineCause::Syntax(1)))
 }
@@ -46,8 +47,8 @@ impl Script {
     ///
     /// `BadLine` names the first line that is no line of the grammar in its position, or has a fault, or is not built
     /// yet, with its cause and place; a missing END is `Syntax(1)` of the line after the last. `Memory` is want of
-    /// memory. Cost: one pass over the bytes; a name is looked up among those that were declared. The form is this
-    /// project's own.
+    /// memory. Cost: one pass over the bytes; a name is looked up among those that were declared, and a row's key among
+    /// the rows before it where its table has a unique index. The form is this project's own.
     pub fn read(alloc: Global, bytes: &[u8]) -> Result<Script, ScriptFault>
         requires { length bytes.now ≤ 1048576 }
         ensures read { IfOk result (λ s. spec.reads bytes.now s) }

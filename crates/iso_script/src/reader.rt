@@ -1,21 +1,17 @@
 //! What stands between the lines of a script that is read.
 
-ghost use Rattle.std.specs.Prelude.{◌≡◌, ◌<◌, ◌^◌, ◌+◌, length, OnOk};
-ghost use Rattle.iso_grammar.specs.Grammar.{Answers};
-ghost use Rattle.iso_grammar.specs.Lex.{tokens};
+ghost use Rattle.std.specs.Prelude.{◌≡◌, OnOk};
 ghost use Rattle.iso_script.specs.Advance as step;
 ghost use Rattle.iso_script.specs.Built.{is_commit};
-ghost use Rattle.iso_script.specs.Rules as rule;
 ghost use Rattle.iso_script.specs.Reading as spec;
-ghost use Rattle.iso_script.specs.Steps.{EventAnswers, LineAnswers, verdict as judged};
+ghost use Rattle.iso_script.specs.Steps.{verdict as judged};
 ghost use Rattle.iso_script.specs.declared.event.Event.TheVariants as event;
 
 use crate::event::{Event, Setting, Settings};
-use crate::fault::{LineCause, ScriptFault, cause_of};
-use crate::rules::whole_line;
+use crate::fault::{LineCause, cause_of};
 use crate::script::{Line, Script, What};
 use crate::unbuilt::is_built;
-use iso_grammar::{Checked, ReadError, Token, Tokens, is_comment, place_of, tokens_of};
+use iso_grammar::Checked;
 use iso_sql::Statement;
 use iso_types::{Config, Conn, Head, Items, Memory};
 use std::alloc::Global;
@@ -87,7 +83,7 @@ fn with_set(set: Settings, setting: Setting) -> Settings
 }
 
 /// What a line with these faults says.
-fn verdict(reader: &Reader, found: Checked<Event>) -> Result<Event, LineCause>
+pub fn verdict(reader: &Reader, found: Checked<Event>) -> Result<Event, LineCause>
     ensures { result ≡ judged reader.now found }
 {
     if let Some(fault) = found.fault {
@@ -152,7 +148,8 @@ impl Reader {
         self.script.head.config = with_setting(self.script.head.config, setting);
     }
 
-    fn advance(&mut self, number: u32, event: Event) -> Result<(), Memory>
+    /// Takes the event of the line with this number; after `Memory` it stands anywhere.
+    pub fn advance(&mut self, number: u32, event: Event) -> Result<(), Memory>
         ensures { OnOk result (self.new ≡ step.advance self.old number event) }
     {
         match event {
@@ -166,60 +163,6 @@ impl Reader {
             Event::Asked(conn, free, what) => self.ask(number, conn, free, what)?,
             Event::End => self.place = Place::After,
         }
-        Ok(())
-    }
-
-    /// What the tokens of a line say, or where they leave the grammar.
-    fn said(
-        &self,
-        alloc: Global,
-        line: &[u8],
-        tokens: &[Token],
-    ) -> Result<Checked<Event>, ReadError>
-        ensures { Answers (rule.rule self.now.place self.now line.now) tokens.now result }
-    {
-        let mut cursor = Tokens::new(tokens);
-        whole_line(alloc, self, line, &mut cursor, tokens.len())
-    }
-
-    fn event(
-        &self,
-        alloc: Global,
-        line: &[u8],
-        found: &[Token],
-        number: u32,
-    ) -> Result<Event, ScriptFault>
-        requires same { found.now ≡ tokens line.now }
-        requires short { length line.now + 1 < 2 ^ 32 }
-        ensures { EventAnswers self.now line.now number result }
-    {
-        match self.said(alloc, line, found) {
-            Err(ReadError::Memory) => Err(ScriptFault::Memory),
-            Err(ReadError::Syntax(left)) => {
-                let place = place_of(found, left, line.len() as u32);
-                Err(ScriptFault::BadLine(number, LineCause::Syntax(place)))
-            }
-            Ok(said) => match verdict(self, said) {
-                Ok(event) => Ok(event),
-                Err(cause) => Err(ScriptFault::BadLine(number, cause)),
-            },
-        }
-    }
-
-    /// Takes the next line, which has this number.
-    pub fn take_line(&mut self, alloc: Global, line: &[u8], number: u32) -> Result<(), ScriptFault>
-        requires { length line.now + 1 < 2 ^ 32 }
-        ensures { LineAnswers self.old line.now number result self.new }
-    {
-        if is_comment(line) {
-            return Ok(());
-        }
-        let found = tokens_of(alloc, line)?;
-        if found.as_slice().is_empty() {
-            return Ok(());
-        }
-        let event = self.event(alloc, line, found.as_slice(), number)?;
-        self.advance(number, event)?;
         Ok(())
     }
 }

@@ -2,12 +2,14 @@
 
 ghost use Rattle.std.specs.Prelude.{◌≡◌, length, IfOk};
 ghost use Rattle.iso_grammar.specs.Reading.{Gives, all_of};
+ghost use Rattle.iso_script.specs.Kept.{IsKept};
 ghost use Rattle.iso_script.specs.Keyed.{index_words as words_of};
 ghost use Rattle.iso_script.specs.RuleReading as spec;
 
 use crate::event::Event;
 use crate::events::{configured, connected, declared, expired, pictured, plain, stated};
 use crate::keyed::{indexed, rowed};
+use crate::progress::Progress;
 use crate::reader::{Place, Reader};
 use crate::words::{ColumnWords, IndexWords, RowWords, SettingName, SettingWords, TypeWords};
 use iso_grammar::{Checked, Kind, ReadError, Token, Tokens};
@@ -257,13 +259,14 @@ fn literals(alloc: Global, tokens: &mut Tokens<'_>, bound: usize) -> Result<Item
 #[tactic(auto, unfolding(crate::specs::RuleReading::row_line))]
 fn row_line(
     alloc: Global,
-    reader: &Reader,
+    progress: &Progress,
     line: &[u8],
     tokens: &mut Tokens<'_>,
     bound: usize,
 ) -> Result<Checked<Event>, ReadError>
+    requires kept { IsKept progress.now }
     requires most { tokens.old.most ≡ bound }
-    ensures { Gives (spec.row_line reader.now line.now bound) tokens.old result tokens.new }
+    ensures { Gives (spec.row_line progress.now.reader line.now bound) tokens.old result tokens.new }
 {
     let first = tokens.expect(Kind::Row)?;
     let table = tokens.expect(Kind::Name)?;
@@ -275,8 +278,7 @@ fn row_line(
         table,
         close,
     };
-    let head = &reader.script.head;
-    Ok(rowed(alloc, head, line, words, values.as_slice())?)
+    Ok(rowed(alloc, progress, line, words, values.as_slice())?)
 }
 
 fn index_words(
@@ -425,24 +427,25 @@ fn end_line(tokens: &mut Tokens<'_>) -> Result<Checked<Event>, ReadError>
 #[tactic(auto, unfolding(crate::specs::RuleReading::head_line))]
 fn head_line(
     alloc: Global,
-    reader: &Reader,
+    progress: &Progress,
     line: &[u8],
     tokens: &mut Tokens<'_>,
     bound: usize,
 ) -> Result<Checked<Event>, ReadError>
+    requires kept { IsKept progress.now }
     requires most { tokens.old.most ≡ bound }
-    ensures { Gives (spec.head_line reader.now line.now bound) tokens.old result tokens.new }
+    ensures { Gives (spec.head_line progress.now.reader line.now bound) tokens.old result tokens.new }
 {
     if tokens.sees(Kind::Config) {
-        config_line(reader, line, tokens)
+        config_line(&progress.reader, line, tokens)
     } else if tokens.sees(Kind::Table) {
-        table_line(alloc, reader, line, tokens, bound)
+        table_line(alloc, &progress.reader, line, tokens, bound)
     } else if tokens.sees_either(Kind::Unique, Kind::Index) {
-        index_line(reader, line, tokens)
+        index_line(&progress.reader, line, tokens)
     } else if tokens.sees(Kind::Row) {
-        row_line(alloc, reader, line, tokens, bound)
+        row_line(alloc, progress, line, tokens, bound)
     } else if tokens.sees(Kind::Connect) {
-        connect_line(reader, line, tokens)
+        connect_line(&progress.reader, line, tokens)
     } else {
         begin_line(tokens)
     }
@@ -472,18 +475,19 @@ fn body_line(
 
 fn any_line(
     alloc: Global,
-    reader: &Reader,
+    progress: &Progress,
     line: &[u8],
     tokens: &mut Tokens<'_>,
     bound: usize,
 ) -> Result<Checked<Event>, ReadError>
+    requires kept { IsKept progress.now }
     requires most { tokens.old.most ≡ bound }
-    ensures { Gives (spec.rule reader.now.place reader.now line.now bound) tokens.old result tokens.new }
+    ensures { Gives (spec.rule progress.now.reader.place progress.now.reader line.now bound) tokens.old result tokens.new }
 {
-    match reader.place {
+    match progress.reader.place {
         Place::First => first_line(tokens),
-        Place::Head => head_line(alloc, reader, line, tokens, bound),
-        Place::Body => body_line(alloc, reader, line, tokens, bound),
+        Place::Head => head_line(alloc, progress, line, tokens, bound),
+        Place::Body => body_line(alloc, &progress.reader, line, tokens, bound),
         Place::After => Ok(plain(Event::End)),
     }
 }
@@ -491,16 +495,17 @@ fn any_line(
 /// Reads a whole line.
 pub fn whole_line(
     alloc: Global,
-    reader: &Reader,
+    progress: &Progress,
     line: &[u8],
     tokens: &mut Tokens<'_>,
     bound: usize,
 ) -> Result<Checked<Event>, ReadError>
+    requires kept { IsKept progress.now }
     requires most { tokens.old.most ≡ bound }
     requires all { length tokens.old.rest ≡ bound }
-    ensures { Gives (all_of (spec.rule reader.now.place reader.now line.now)) tokens.old result tokens.new }
+    ensures { Gives (all_of (spec.rule progress.now.reader.place progress.now.reader line.now)) tokens.old result tokens.new }
 {
-    let found = any_line(alloc, reader, line, tokens, bound)?;
+    let found = any_line(alloc, progress, line, tokens, bound)?;
     tokens.end()?;
     Ok(found)
 }

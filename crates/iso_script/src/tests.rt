@@ -1,4 +1,9 @@
+ghost use Rattle.std.specs.Prelude.{◌<◌, ◌^◌, length, OnOk};
+ghost use Rattle.iso_script.specs.Kept.{IsKept};
+
 use super::*;
+use crate::progress::Progress;
+use iso_grammar::tokens_of;
 use iso_types::Items;
 use std::alloc::Global;
 
@@ -254,6 +259,55 @@ fn refuses_tables(alloc: Global) -> bool {
         Ok(bytes) => refuses(alloc, bytes.as_slice(), 18, LineCause::Limit(1)),
         Err(_) => false,
     }
+}
+
+// Takes a line whether or not it is built; true where it has no fault.
+fn takes(
+    alloc: Global,
+    progress: &mut Progress,
+    line: &[u8],
+    number: u32,
+) -> Result<bool, ScriptFault>
+    requires kept { IsKept progress.old }
+    requires short { length line.now < 2 ^ 32 }
+    ensures kept { OnOk result (IsKept progress.new) }
+{
+    let found = tokens_of(alloc, line)?;
+    match progress.said(alloc, line, found.as_slice()) {
+        Err(_) => Err(ScriptFault::BadLine(number, LineCause::Syntax(1))),
+        Ok(said) => {
+            if said.fault.is_some() {
+                return Ok(false);
+            }
+            progress.advance(number, said.value)?;
+            Ok(true)
+        }
+    }
+}
+
+// How many rows a table takes of so many that are offered.
+fn rows_taken(alloc: Global, offered: u32) -> Result<u32, ScriptFault> {
+    let mut progress = Progress::new(alloc);
+    takes(alloc, &mut progress, b"DB2ISO 1", 1)?;
+    takes(alloc, &mut progress, b"TABLE T (ID INTEGER NOT NULL)", 2)?;
+    for count in 0..offered {
+        if !takes(alloc, &mut progress, b"ROW T (1)", 3)? {
+            return Ok(count);
+        }
+    }
+    Ok(offered)
+}
+
+fn takes_most(alloc: Global) -> bool {
+    match rows_taken(alloc, 70000) {
+        Ok(count) => count == 65536,
+        Err(_) => false,
+    }
+}
+
+#[test]
+fn a_table_takes_65536_rows(rt: HostRuntime) {
+    assert!(rt; takes_most(rt.alloc()));
 }
 
 #[test]
