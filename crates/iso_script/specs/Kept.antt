@@ -38,7 +38,7 @@ is_same_entry a b = (nat_eq a.0 b.0 && nat_eq a.1 b.1) && value_eq a.2 b.2
 abbrev pub has_value : BTreeSet (ℕ × ℕ × Value) → TableId → ℕ → Value → Bool
 has_value keys t column v = list_any (is_same_entry (t.0, column, v)) keys.keys
 
--- it is the key v in this column of this table
+-- this value, in this place of this table, is the key v in the column of t
 abbrev pub is_that : TableId → ℕ → Value → TableId → ℕ → Value → Bool
 is_that table place value t column v = table_eq table t && (nat_eq place column && is_same_key v value)
 

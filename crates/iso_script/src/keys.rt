@@ -10,9 +10,10 @@ ghost use Rattle.iso_script.specs.Kept.{has_value as has, is_that};
 use iso_types::{FirstRow, Memory, TableId, Value};
 use std::collections::BTreeSet;
 
-/// Values that are not NULL, each behind its table and its column's place.
+/// Values that are not NULL, each behind its table and its column's place. This project's own.
 pub type Keys = BTreeSet<(u8, usize, Value)>;
 
+/// Whether the value is NULL, which is no key. Db2 LUW, 'Unique indexes'.
 pub fn is_null(value: &Value) -> bool
     ensures { result ≡ null value.now }
 {
@@ -26,7 +27,8 @@ pub fn has_value(keys: &Keys, table: TableId, column: usize, value: &Value) -> b
     keys.contains(&(table.0, column, *value))
 }
 
-/// Adds the value in this column of this table, unless it is NULL. Cost: the logarithm of the set's size.
+/// Adds the value in this column of this table, unless it is NULL. `Memory` is want of memory for it. Cost: the
+/// logarithm of the set's size.
 pub fn add_value(
     keys: &mut Keys,
     table: TableId,
@@ -41,13 +43,14 @@ pub fn add_value(
     Ok(())
 }
 
-/// Adds the values of a row that are not NULL. Cost: the logarithm of the set's size for each of them.
+/// Adds the values of a row that are not NULL. `Memory` is want of memory for one of them; those before it stay. Cost:
+/// the logarithm of the set's size for each of them.
 pub fn add_row(keys: &mut Keys, first: &FirstRow) -> Result<(), Memory>
     ensures { OnOk result ((t : Table) (c : ℕ) (v : Cell) → has keys.new t c v ≡ (has_this t c v first.now || has keys.old t c v)) }
 {
     let row = first.row.as_slice();
-    for column in 0..row.len() {
-        add_value(keys, first.table, column, &row[column])?;
+    for (column, value) in row.iter().enumerate() {
+        add_value(keys, first.table, column, value)?;
     }
     Ok(())
 }
