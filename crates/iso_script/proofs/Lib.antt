@@ -6,3 +6,4 @@ pub mod NumberLaws
 pub mod SoundLaws
 pub mod Exact
 pub mod KeptLaws
+pub mod KeyLaws

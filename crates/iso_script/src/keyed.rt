@@ -1,8 +1,6 @@
 //! What the lines ROW and INDEX stand for, and what is wrong with them: rows, keys and the indexes on them.
 
-ghost use Rattle.std.specs.Prelude.{◌≡◌, length, nat_le, IfOk};
-ghost use Rattle.iso_types.specs.Head.{is_null as null};
-ghost use Rattle.iso_types.specs.Value.{value_eq};
+ghost use Rattle.std.specs.Prelude.{◌≡◌, ◌&&◌, length, nat_le, IfOk};
 ghost use Rattle.iso_sql.specs.Names.{names_of, place_in as placed};
 ghost use Rattle.iso_sql.specs.Rows.{stored_row as stored};
 ghost use Rattle.iso_script.specs.Kept.{IsKept};
@@ -10,6 +8,7 @@ ghost use Rattle.iso_script.specs.Keyed as spec;
 
 use crate::event::Event;
 use crate::events::whole_line;
+use crate::keys::{Keys, add_value, has_value};
 use crate::naming::{declared_fault, has_index, named};
 use crate::progress::Progress;
 use crate::words::{IndexWords, RowWords};
@@ -17,25 +16,6 @@ use iso_grammar::{Cause, Checked, Fault, Token, fault_at, least, unless};
 use iso_sql::{Scope, scope_of, stored_fault, stored_row, table_of};
 use iso_types::{Column, FirstRow, Head, IndexDef, Memory, TableId, Value};
 use std::alloc::Global;
-
-fn is_null(value: &Value) -> bool
-    ensures { result ≡ null value.now }
-{
-    matches!(value, Value::Null)
-}
-
-#[tactic(auto, unfolding(iso_types::specs::Value::value_eq))]
-fn is_equal(a: &Value, b: &Value) -> bool
-    ensures { result ≡ value_eq a.now b.now }
-{
-    *a == *b
-}
-
-fn is_same_key(a: &Value, b: &Value) -> bool
-    ensures { result ≡ spec.is_same_key a.now b.now }
-{
-    !is_null(a) && is_equal(a, b)
-}
 
 fn key_at(column: u8, row: &[Value]) -> Value
     ensures { result ≡ spec.key_at column row.now }
@@ -46,35 +26,35 @@ fn key_at(column: u8, row: &[Value]) -> Value
     }
 }
 
-fn is_own(first: &FirstRow, table: TableId, column: u8, value: &Value) -> bool
-    ensures { result ≡ spec.has_this table column value.now first.now }
+fn has_key(progress: &Progress, table: TableId, column: u8, value: &Value) -> bool
+    requires kept { IsKept progress.now }
+    ensures { result ≡ spec.has_key table column value.now progress.now.reader.script.head.rows }
 {
-    first.table.0 == table.0 && is_same_key(value, &key_at(column, first.row.as_slice()))
+    has_value(&progress.keys, table, column as usize, value)
 }
 
-fn has_key(table: TableId, column: u8, value: &Value, rows: &[FirstRow]) -> bool
-    ensures { result ≡ spec.has_key table column value.now rows.now }
-{
-    rows.iter().any(|first| is_own(first, table, column, value))
-}
-
-fn repeats_key(rows: &[FirstRow], table: TableId, row: &[Value], index: &IndexDef) -> bool
-    ensures { result ≡ spec.repeats_key rows.now table row.now index.now }
+fn repeats_key(progress: &Progress, table: TableId, row: &[Value], index: &IndexDef) -> bool
+    requires kept { IsKept progress.now }
+    ensures { result ≡ spec.repeats_key progress.now.reader.script.head.rows table row.now index.now }
 {
     index.unique
         && (index.table.0 == table.0
-            && has_key(table, index.column, &key_at(index.column, row), rows))
+            && has_key(progress, table, index.column, &key_at(index.column, row)))
 }
 
 #[tactic(auto, unfolding(crate::specs::Keyed::repeats_keys))]
-fn repeats_keys(head: &Head, table: TableId, row: &[Value]) -> bool
-    ensures { result ≡ spec.repeats_keys head.now table row.now }
+fn repeats_keys(progress: &Progress, table: TableId, row: &[Value]) -> bool
+    requires kept { IsKept progress.now }
+    ensures { result ≡ spec.repeats_keys progress.now.reader.script.head table row.now }
 {
-    let rows = head.rows.as_slice();
-    head.indexes
-        .as_slice()
-        .iter()
-        .any(|index| repeats_key(rows, table, row, index))
+    let mut indexes = progress.reader.script.head.indexes.as_slice();
+    while let [index, rest @ ..] = indexes {
+        if repeats_key(progress, table, row, index) {
+            return true;
+        }
+        indexes = rest;
+    }
+    false
 }
 
 fn is_full(progress: &Progress, table: TableId) -> bool
@@ -108,7 +88,7 @@ fn values_fault(
     ensures { result ≡ spec.values_fault progress.now.reader.script.head (names_of scope.now).line words.first table (names_of scope.now).columns values.now words.close }
 {
     let twice = unless(
-        !repeats_keys(&progress.reader.script.head, table, row),
+        !repeats_keys(progress, table, row),
         words.first,
         Cause::Duplicate,
     );
@@ -135,8 +115,8 @@ fn row_fault(
     }
 }
 
-/// A ROW line with these values. `Memory` is want of memory for them. Cost: one look at the rows so far for each
-/// unique index of the table, and none without; else the length of the line, and the names of tables.
+/// A ROW line with these values. `Memory` is want of memory for them. Cost: the logarithm of the number of values so far
+/// for each unique index of the table; else the length of the line, the names of tables, and the number of indexes.
 #[tactic(auto, unfolding(crate::specs::Keyed::rowed, iso_sql::specs::Names::table_names))]
 pub fn rowed(
     alloc: Global,
@@ -159,17 +139,26 @@ pub fn rowed(
     })
 }
 
-fn has_twice(table: TableId, column: u8, mut rows: &[FirstRow]) -> bool
-    ensures { result ≡ spec.has_twice table column rows.entry.now }
+fn has_twice(
+    alloc: Global,
+    table: TableId,
+    column: u8,
+    mut rows: &[FirstRow],
+) -> Result<bool, Memory>
+    ensures { IfOk result (λ twice. twice ≡ spec.has_twice table column rows.entry.now) }
 {
+    let mut seen = Keys::new(alloc);
     while let [first, rest @ ..] = rows {
-        let key = key_at(column, first.row.as_slice());
-        if first.table.0 == table.0 && has_key(table, column, &key, rest) {
-            return true;
+        if first.table.0 == table.0 {
+            let key = key_at(column, first.row.as_slice());
+            if has_value(&seen, table, column as usize, &key) {
+                return Ok(true);
+            }
+            add_value(&mut seen, table, column as usize, &key)?;
         }
         rows = rest;
     }
-    false
+    Ok(false)
 }
 
 fn own_indexes(table: TableId, mut indexes: &[IndexDef]) -> usize
@@ -204,24 +193,51 @@ fn required_fault(found: Option<Column>, column: Token) -> Option<Fault>
     }
 }
 
-fn keys_fault(head: &Head, words: IndexWords, table: TableId, place: Option<u8>) -> Option<Fault>
-    ensures { result ≡ spec.keys_fault head.now words table place }
+fn is_doubled(
+    alloc: Global,
+    head: &Head,
+    words: IndexWords,
+    table: TableId,
+    column: u8,
+) -> Result<bool, Memory>
+    ensures { IfOk result (λ twice. twice ≡ (words.unique && spec.has_twice table column head.now.rows)) }
+{
+    if words.unique {
+        return has_twice(alloc, table, column, head.rows.as_slice());
+    }
+    Ok(false)
+}
+
+fn keys_fault(
+    alloc: Global,
+    head: &Head,
+    words: IndexWords,
+    table: TableId,
+    place: Option<u8>,
+) -> Result<Option<Fault>, Memory>
+    ensures { IfOk result (λ fault. fault ≡ spec.keys_fault head.now words table place) }
 {
     match place {
         Some(column) => {
-            let twice = words.unique && has_twice(table, column, head.rows.as_slice());
-            unless(!twice, words.first, Cause::Duplicate)
+            let twice = is_doubled(alloc, head, words, table, column)?;
+            Ok(unless(!twice, words.first, Cause::Duplicate))
         }
-        None => None,
+        None => Ok(None),
     }
 }
 
-fn on_fault(head: &Head, words: IndexWords, table: TableId, scope: &Scope<'_>) -> Option<Fault>
-    ensures { result ≡ spec.on_fault head.now words table (names_of scope.now) }
+fn on_fault(
+    alloc: Global,
+    head: &Head,
+    words: IndexWords,
+    table: TableId,
+    scope: &Scope<'_>,
+) -> Result<Option<Fault>, Memory>
+    ensures { IfOk result (λ fault. fault ≡ spec.on_fault head.now words table (names_of scope.now)) }
 {
-    let twice = keys_fault(head, words, table, scope.column_place(words.column));
+    let twice = keys_fault(alloc, head, words, table, scope.column_place(words.column))?;
     let column = required_fault(scope.column_of(words.column), words.column);
-    least(twice, least(crowd_fault(head, table), column))
+    Ok(least(twice, least(crowd_fault(head, table), column)))
 }
 
 fn unknown_fault(head: &Head, table: Token) -> Option<Fault>
@@ -235,13 +251,19 @@ fn unknown_fault(head: &Head, table: Token) -> Option<Fault>
     least(crowd, fault_at(table, Cause::Unknown))
 }
 
-fn place_fault(head: &Head, words: IndexWords, table: TableId, scope: &Scope<'_>) -> Option<Fault>
-    ensures { result ≡ spec.place_fault head.now words table (names_of scope.now) }
+fn place_fault(
+    alloc: Global,
+    head: &Head,
+    words: IndexWords,
+    table: TableId,
+    scope: &Scope<'_>,
+) -> Result<Option<Fault>, Memory>
+    ensures { IfOk result (λ fault. fault ≡ spec.place_fault head.now words table (names_of scope.now)) }
 {
     if scope.known {
-        on_fault(head, words, table, scope)
+        on_fault(alloc, head, words, table, scope)
     } else {
-        unknown_fault(head, words.table)
+        Ok(unknown_fault(head, words.table))
     }
 }
 
@@ -254,21 +276,28 @@ fn place_in(place: Option<u8>) -> u8
     }
 }
 
-/// An INDEX line. Cost: where it is UNIQUE, one look at the rows so far for each row of the table.
+/// An INDEX line. `Memory` is want of memory for the keys of the rows. Cost: where it is UNIQUE, one look at each row,
+/// and for each of the table the logarithm of their number; else the length of the line, and the names declared.
 #[tactic(auto, unfolding(crate::specs::Keyed::indexed))]
-pub fn indexed(head: &Head, line: &[u8], words: IndexWords) -> Checked<Event>
-    ensures { result ≡ spec.indexed head.now line.now words }
+pub fn indexed(
+    alloc: Global,
+    head: &Head,
+    line: &[u8],
+    words: IndexWords,
+) -> Result<Checked<Event>, Memory>
+    ensures { IfOk result (λ e. e ≡ spec.indexed head.now line.now words) }
 {
     let scope = scope_of(head, line, words.table);
     let table = table_of(head, line, words.table);
     let own = declared_fault(has_index(head, line, words.name), line, words.name);
-    Checked {
+    let fault = place_fault(alloc, head, words, table, &scope)?;
+    Ok(Checked {
         value: Event::Index(IndexDef {
             name: named(line, words.name),
             table,
             column: place_in(scope.column_place(words.column)),
             unique: words.unique,
         }),
-        fault: least(own, place_fault(head, words, table, &scope)),
-    }
+        fault: least(own, fault),
+    })
 }

@@ -5,6 +5,7 @@ mod event;
 mod events;
 mod fault;
 mod keyed;
+mod keys;
 mod naming;
 mod progress;
 mod read;

@@ -1,27 +1,30 @@
 //! A script so far, with what is kept beside it so that a line need not look through the lines before it.
 
-ghost use Rattle.std.specs.Prelude.{◌≡◌, ◌<◌, ◌^◌, ◌+◌, [], length, OnOk};
+ghost use Rattle.std.specs.Prelude.{◌≡◌, ◌<◌, ◌^◌, ◌+◌, ◌++◌, List, [], length, OnOk};
+ghost use Rattle.iso_types.specs.declared.head.FirstRow.{FirstRow as First};
 ghost use Rattle.iso_grammar.specs.Grammar.{Answers};
 ghost use Rattle.iso_grammar.specs.Lex.{tokens};
 ghost use Rattle.iso_script.specs.Advance as step;
-ghost use Rattle.iso_script.specs.Kept.{IsCounted, IsKept, counted, own_table as own, with_row as more};
+ghost use Rattle.iso_script.specs.Kept.{HoldsKeys, IsCounted, IsKept, counted, own_row, own_table as own, with_row as more};
 ghost use Rattle.iso_script.specs.Reading as spec;
 ghost use Rattle.iso_script.specs.Rules as rule;
 ghost use Rattle.iso_script.specs.Steps.{EventAnswers, LineAnswers};
 
 use crate::event::Event;
 use crate::fault::{LineCause, ScriptFault};
+use crate::keys::{Keys, add_row};
 use crate::reader::{Reader, verdict};
 use crate::rules::whole_line;
 use iso_grammar::{Checked, ReadError, Token, Tokens, is_comment, place_of, tokens_of};
 use iso_types::{Memory, TableId};
 use std::alloc::Global;
 
-/// A script so far, and the number of rows of each table, counted to 65,536.
+/// A script so far, with the number of rows of each table, counted to 65,536, and the keys of all rows.
 #[derive(Drop)]
 pub struct Progress {
     pub reader: Reader,
     pub counts: [u32; 256],
+    pub keys: Keys,
 }
 
 fn own_table(event: &Event) -> Option<TableId>
@@ -57,6 +60,21 @@ fn no_rows() -> [u32; 256]
     [0; 256]
 }
 
+fn no_keys(alloc: Global) -> Keys
+    ensures { HoldsKeys result [] }
+{
+    Keys::new(alloc)
+}
+
+fn add_keys(keys: &mut Keys, event: &Event) -> Result<(), Memory>
+    ensures { OnOk result ((rows : List First) → HoldsKeys keys.old rows → HoldsKeys keys.new (rows ++ own_row event.now)) }
+{
+    match event {
+        Event::Row(first) => add_row(keys, first),
+        _ => Ok(()),
+    }
+}
+
 impl Progress {
     /// Before the first line.
     pub fn new(alloc: Global) -> Progress
@@ -66,16 +84,19 @@ impl Progress {
         Progress {
             reader: Reader::new(alloc),
             counts: no_rows(),
+            keys: no_keys(alloc),
         }
     }
 
-    /// Takes the event of the line with this number. Cost: that of one entry at the end of a list.
+    /// Takes the event of the line with this number; after `Memory` it stands anywhere. Cost: that of one entry at the
+    /// end of a list, and for a row the logarithm of the number of values so far, for each of its values.
     pub fn advance(&mut self, number: u32, event: Event) -> Result<(), Memory>
         requires kept { IsKept self.old }
         ensures step { OnOk result (self.new.reader ≡ step.advance self.old.reader number event) }
         ensures kept { OnOk result (IsKept self.new) }
     {
         let table = own_table(&event);
+        add_keys(&mut self.keys, &event)?;
         self.reader.advance(number, event)?;
         self.counts = with_row(self.counts, table);
         Ok(())

@@ -47,8 +47,9 @@ impl Script {
     ///
     /// `BadLine` names the first line that is no line of the grammar in its position, or has a fault, or is not built
     /// yet, with its cause and place; a missing END is `Syntax(1)` of the line after the last. `Memory` is want of
-    /// memory. Cost: one pass over the bytes; a name is looked up among those that were declared, and a row's key among
-    /// the rows before it where its table has a unique index. The form is this project's own.
+    /// memory. Cost: one pass over the bytes, a look for each name among those that were declared, and for each value of
+    /// a row the logarithm of the number of values before it; a UNIQUE INDEX line takes one look at each row before it.
+    /// Until the end, values of rows stand in memory twice. The form is this project's own.
     pub fn read(alloc: Global, bytes: &[u8]) -> Result<Script, ScriptFault>
         requires { length bytes.now ≤ 1048576 }
         ensures read { IfOk result (λ s. spec.reads bytes.now s) }

@@ -301,6 +301,7 @@ fn index_words(
 
 #[tactic(auto, unfolding(crate::specs::RuleReading::index_on))]
 fn index_on(
+    alloc: Global,
     reader: &Reader,
     line: &[u8],
     unique: Option<Token>,
@@ -316,11 +317,12 @@ fn index_on(
     let column = tokens.expect(Kind::Name)?;
     tokens.expect(Kind::Close)?;
     let words = index_words(unique, word, name, table, column);
-    Ok(indexed(&reader.script.head, line, words))
+    Ok(indexed(alloc, &reader.script.head, line, words)?)
 }
 
 #[tactic(auto, unfolding(crate::specs::RuleReading::index_line))]
 fn index_line(
+    alloc: Global,
     reader: &Reader,
     line: &[u8],
     tokens: &mut Tokens<'_>,
@@ -328,7 +330,7 @@ fn index_line(
     ensures { Gives (spec.index_line reader.now line.now) tokens.old result tokens.new }
 {
     let unique = tokens.take(Kind::Unique)?;
-    index_on(reader, line, unique, tokens)
+    index_on(alloc, reader, line, unique, tokens)
 }
 
 #[tactic(auto, unfolding(crate::specs::RuleReading::isolation))]
@@ -441,7 +443,7 @@ fn head_line(
     } else if tokens.sees(Kind::Table) {
         table_line(alloc, &progress.reader, line, tokens, bound)
     } else if tokens.sees_either(Kind::Unique, Kind::Index) {
-        index_line(&progress.reader, line, tokens)
+        index_line(alloc, &progress.reader, line, tokens)
     } else if tokens.sees(Kind::Row) {
         row_line(alloc, progress, line, tokens, bound)
     } else if tokens.sees(Kind::Connect) {

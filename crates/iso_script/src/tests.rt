@@ -1,4 +1,4 @@
-ghost use Rattle.std.specs.Prelude.{◌<◌, ◌^◌, length, OnOk};
+ghost use Rattle.std.specs.Prelude.{◌≡◌, ◌<◌, ◌^◌, length, IfOk, OnOk};
 ghost use Rattle.iso_script.specs.Kept.{IsKept};
 
 use super::*;
@@ -285,11 +285,19 @@ fn takes(
     }
 }
 
-// How many rows a table takes of so many that are offered.
-fn rows_taken(alloc: Global, offered: u32) -> Result<u32, ScriptFault> {
+// A script with a table T of one column ID.
+fn with_table(alloc: Global) -> Result<Progress, ScriptFault>
+    ensures kept { IfOk result (λ p. IsKept p) }
+{
     let mut progress = Progress::new(alloc);
     takes(alloc, &mut progress, b"DB2ISO 1", 1)?;
     takes(alloc, &mut progress, b"TABLE T (ID INTEGER NOT NULL)", 2)?;
+    Ok(progress)
+}
+
+// How many rows a table takes of so many that are offered.
+fn rows_taken(alloc: Global, offered: u32) -> Result<u32, ScriptFault> {
+    let mut progress = with_table(alloc)?;
     for count in 0..offered {
         if !takes(alloc, &mut progress, b"ROW T (1)", 3)? {
             return Ok(count);
@@ -305,9 +313,78 @@ fn takes_most(alloc: Global) -> bool {
     }
 }
 
+fn digit(number: u32) -> u8 {
+    b'0' + (number % 10) as u8
+}
+
+fn row_with(key: u32) -> [u8; 13]
+    ensures { length result ≡ 13 }
+{
+    let mut line = *b"ROW T (00000)";
+    line[7] = digit(key / 10000);
+    line[8] = digit(key / 1000);
+    line[9] = digit(key / 100);
+    line[10] = digit(key / 10);
+    line[11] = digit(key);
+    line
+}
+
+// How many rows it takes of so many that are offered with keys from 0 on.
+fn keys_taken(alloc: Global, progress: &mut Progress, offered: u32) -> Result<u32, ScriptFault>
+    requires kept { IsKept progress.old }
+    ensures kept { OnOk result (IsKept progress.new) }
+{
+    for key in 0..offered {
+        if !takes(alloc, progress, &row_with(key), 3)? {
+            return Ok(key);
+        }
+    }
+    Ok(offered)
+}
+
+// A unique index before the rows.
+fn index_first(alloc: Global) -> Result<bool, ScriptFault> {
+    let mut progress = with_table(alloc)?;
+    let taken = takes(alloc, &mut progress, b"UNIQUE INDEX I ON T (ID)", 3)?;
+    Ok(taken && keys_taken(alloc, &mut progress, 70000)? == 65536)
+}
+
+// A unique index behind the rows, and then a key that one of them has.
+fn index_last(alloc: Global) -> Result<bool, ScriptFault> {
+    let mut progress = with_table(alloc)?;
+    let count = keys_taken(alloc, &mut progress, 65535)?;
+    let taken = takes(alloc, &mut progress, b"UNIQUE INDEX I ON T (ID)", 3)?;
+    let repeated = takes(alloc, &mut progress, &row_with(7), 3)?;
+    Ok(count == 65535 && taken && !repeated)
+}
+
+fn takes_keys(alloc: Global) -> bool {
+    match index_first(alloc) {
+        Ok(taken) => taken,
+        Err(_) => false,
+    }
+}
+
+fn takes_index(alloc: Global) -> bool {
+    match index_last(alloc) {
+        Ok(taken) => taken,
+        Err(_) => false,
+    }
+}
+
 #[test]
 fn a_table_takes_65536_rows(rt: HostRuntime) {
     assert!(rt; takes_most(rt.alloc()));
+}
+
+#[test]
+fn a_unique_index_takes_65536_keys(rt: HostRuntime) {
+    assert!(rt; takes_keys(rt.alloc()));
+}
+
+#[test]
+fn a_unique_index_behind_65535_rows_is_taken(rt: HostRuntime) {
+    assert!(rt; takes_index(rt.alloc()));
 }
 
 #[test]
