@@ -11,3 +11,6 @@ pub mod SoundConditions
 pub mod SoundRows
 pub mod SoundSets
 pub mod SoundStatements
+pub mod Firsts
+pub mod EveryLaws
+pub mod StandingLaws

@@ -1,6 +1,7 @@
 pub mod Sound
 pub mod Names
 pub mod Rows
+pub mod Every
 pub mod Actions
 pub mod Conditions
 pub mod ConditionReading

@@ -1,0 +1,15 @@
+use Rattle.std.proofs.Common.{refl, []}
+use Rattle.iso_grammar.proofs.Rising.{rises}
+use Rattle.iso_grammar.specs.Lex.{tokens}
+use Rattle.iso_sql.proofs.EveryLaws.{listed-least, stored-least}
+use Rattle.iso_sql.proofs.StandingLaws.{standing-rise, starts-rise}
+use Rattle.iso_sql.proofs.told.told_faults_are_least.Goals as goal
+
+pub returns-clause-rise : goal.returns-clause-rise
+returns-clause-rise c = λ line ts s. standing-rise 0 ts (tokens line) s (starts-rise 0 (tokens line) (rises line))
+
+pub returns-clause-columns : goal.returns-clause-columns
+returns-clause-columns c = λ names ts n r. listed-least names [] [] ts n (λ p. refl) r
+
+pub returns-clause-literals : goal.returns-clause-literals
+returns-clause-literals c = stored-least
