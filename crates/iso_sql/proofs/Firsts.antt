@@ -45,7 +45,7 @@ least-key g f le = sooner-is g f ∙ is-not-less (key g) (key f) le
 pub key-sooner : (g f : Fault) → is_sooner g f ≡ true → key g < key f
 key-sooner g f e = ltb-true (key g) (key f) (sym (sooner-is g f) ∙ e)
 
-place-sooner : (f g : Fault) → f.place < g.place → is_sooner g f ≡ false
+pub place-sooner : (f g : Fault) → f.place < g.place → is_sooner g f ≡ false
 place-sooner f g lt = least-key g f (omega (arith, lt, rank-small f.cause))
 
 -- ---- the least of two lists

@@ -14,3 +14,4 @@ pub mod SoundStatements
 pub mod Firsts
 pub mod EveryLaws
 pub mod StandingLaws
+pub mod EverySets

@@ -4,7 +4,7 @@ use Rattle.iso_grammar.specs.declared.token.Token.{Token}
 use Rattle.iso_grammar.specs.Order.{RisesFrom}
 use Rattle.iso_sql.specs.Every.{Rise, StandIn}
 
-lower : (m n : ℕ) (ts : List Token) → n ≤ m → Rise m ts → Rise n ts
+pub lower : (m n : ℕ) (ts : List Token) → n ≤ m → Rise m ts → Rise n ts
 lower m n [] le r = tt
 lower m n (t ∷ ts) le r = (let p : m < t.start = r.0 in omega (arith, p, le), r.1)
 

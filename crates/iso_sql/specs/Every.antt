@@ -2,14 +2,20 @@
 -- this project's own: a line is refused at the least place at which anything is wrong with it
 use Rattle.std.specs.List.{All, Contains, list_any}
 use Rattle.std.specs.Option.{option_map_or}
-use Rattle.std.specs.Prelude.{◌≡◌, ◌<◌, ◌⊎◌, ℕ, Bool, false, not, ◌==◌, List, [], ◌∷◌, ◌++◌, Option, Some, None}
+use Rattle.std.specs.Prelude.{◌≡◌, ◌<◌, ◌⊎◌, ℕ, ℤ, Bool, false, not, ◌==◌, ◌&&◌, List, [], ◌∷◌, ◌++◌, Option, Some, None, is_some}
 use Rattle.iso_types.specs.declared.head.Column.{Column}
-use Rattle.iso_grammar.specs.declared.fault.Cause.TheVariants.{Unknown, TypeFault, Duplicate}
+use Rattle.iso_types.specs.declared.head.ColumnKind.{ColumnKind}
+use Rattle.iso_grammar.specs.declared.fault.Cause.TheVariants.{Unknown, TypeFault, Duplicate, Limit}
 use Rattle.iso_grammar.specs.declared.fault.Fault.{Fault}
 use Rattle.iso_grammar.specs.declared.token.Token.{Token}
 use Rattle.iso_grammar.specs.Faults.{at, is_sooner, unless}
-use Rattle.iso_sql.specs.Names.{Names, column_place}
+use Rattle.iso_sql.specs.declared.assignment.Right.{Right}
+use Rattle.iso_sql.specs.declared.assignment.Right.TheVariants as side
+use Rattle.iso_sql.specs.declared.assignment.Target.{Target}
+use Rattle.iso_sql.specs.Actions.{added, literal_right, taken}
+use Rattle.iso_sql.specs.Names.{Names, column_of, column_place}
 use Rattle.iso_sql.specs.Rows.{stores}
+use Rattle.iso_sql.specs.Sound.{is_assignable, is_number}
 
 -- the fault, where there is one
 abbrev pub each : Option Fault → List Fault
@@ -55,3 +61,45 @@ column_fault names before t = option_map_or (λ p. unless (not (is_named names b
 abbrev pub every_listed : Names → List Token → List Token → List Fault
 every_listed names before [] = []
 every_listed names before (t ∷ ts) = each (column_fault names before t) ++ every_listed names (before ++ t ∷ []) ts
+
+-- ---- assignments
+
+-- both columns are declared, and their kinds do not go together
+abbrev pub clash : (ColumnKind → ColumnKind → Bool) → Option Column → Option Column → Token → Option Fault
+clash go_together (Some source) (Some target) t = unless (go_together source.kind target.kind) t TypeFault
+clash go_together _ _ t = None
+
+-- the token names a column
+abbrev pub source_fault : Names → Token → Option Fault
+source_fault names t = unless (is_some (column_of names t)) t Unknown
+
+abbrev pub are_numbers : ColumnKind → ColumnKind → Bool
+are_numbers source target = is_number source && is_number target
+
+-- a sum of the column that the first token names with this number, whose integer is the second
+abbrev pub every_summed : Names → Option Column → Token → Token → Option ℤ → List Fault
+every_summed names target t n number = each (source_fault names t) ++ (each (clash are_numbers (column_of names t) target t) ++ each (unless (is_some number) n Limit))
+
+-- all that is wrong with a right side; with the kind of its value only where the target is declared
+abbrev pub every_right : Names → Option Column → Right → List Fault
+every_right names target (side.Literal t) = each (literal_right names.line target t)
+every_right names target (side.Column t) = each (source_fault names t) ++ each (clash is_assignable (column_of names t) target t)
+every_right names target (side.Plus t n) = every_summed names target t n (added names.line n)
+every_right names target (side.Minus t n) = every_summed names target t n (taken names.line n)
+
+-- all that is wrong with assignments, behind those to the columns that the first tokens name
+abbrev pub every_assigned : Names → List Token → List Target → List Fault
+every_assigned names before [] = []
+every_assigned names before (a ∷ as') = (each (column_fault names before a.column) ++ every_right names (column_of names a.column) a.right) ++ every_assigned names (before ++ a.column ∷ []) as'
+
+-- the tokens of a right side at which something may be wrong
+abbrev pub right_tokens : Right → List Token
+right_tokens (side.Literal t) = t ∷ []
+right_tokens (side.Column t) = t ∷ []
+right_tokens (side.Plus t n) = t ∷ n ∷ []
+right_tokens (side.Minus t n) = t ∷ n ∷ []
+
+-- and those of assignments
+abbrev pub assigned_tokens : List Target → List Token
+assigned_tokens [] = []
+assigned_tokens (a ∷ as') = a.column ∷ right_tokens a.right ++ assigned_tokens as'

@@ -1,8 +1,8 @@
 pub mod Sound
 pub mod Names
 pub mod Rows
-pub mod Every
 pub mod Actions
+pub mod Every
 pub mod Conditions
 pub mod ConditionReading
 pub mod Statements

@@ -2,6 +2,7 @@ use Rattle.std.proofs.Common.{refl, []}
 use Rattle.iso_grammar.proofs.Rising.{rises}
 use Rattle.iso_grammar.specs.Lex.{tokens}
 use Rattle.iso_sql.proofs.EveryLaws.{listed-least, stored-least}
+use Rattle.iso_sql.proofs.EverySets.{assigned-least}
 use Rattle.iso_sql.proofs.StandingLaws.{standing-rise, starts-rise}
 use Rattle.iso_sql.proofs.told.told_faults_are_least.Goals as goal
 
@@ -13,3 +14,6 @@ returns-clause-columns c = λ names ts n r. listed-least names [] [] ts n (λ p.
 
 pub returns-clause-literals : goal.returns-clause-literals
 returns-clause-literals c = stored-least
+
+pub returns-clause-assignments : goal.returns-clause-assignments
+returns-clause-assignments c = λ names targets n r. assigned-least names [] [] targets n (λ p. refl) r
