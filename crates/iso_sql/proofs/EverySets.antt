@@ -37,7 +37,7 @@ abbrev pub AllAt : (Fault → Type 0) → List Token → Type 0
 AllAt P [] = Unit {0}
 AllAt P (t ∷ ts) = At P t × AllAt P ts
 
-all-at : (P : Fault → Type 0) (t : Token) (why : Cause) → At P t → All P (each (at t why))
+pub all-at : (P : Fault → Type 0) (t : Token) (why : Cause) → At P t → All P (each (at t why))
 unfolding at
 all-at P t why h = All-cons P (record { place = t.start; cause = why }) [] (h why) (All-nil P)
 
@@ -56,7 +56,7 @@ all-summed P names target t n number h k =
     All-append P (each (source_fault names t)) (each (clash are_numbers (column_of names t) target t) ++ each (unless (is_some number) n Limit)) (all-unless P (is_some (column_of names t)) t Unknown h)
     (All-append P (each (clash are_numbers (column_of names t) target t)) (each (unless (is_some number) n Limit)) (all-clash P are_numbers (column_of names t) target t h) (all-unless P (is_some number) n Limit k))
 
-all-literal : (P : Fault → Type 0) (line : List ℕ) (target : Option Column) (t : Token) → At P t → All P (each (literal_right line target t))
+pub all-literal : (P : Fault → Type 0) (line : List ℕ) (target : Option Column) (t : Token) → At P t → All P (each (literal_right line target t))
 all-literal P line None t h = All-nil P
 all-literal P line (Some d) t h = all-unless P (stores false line d t) t TypeFault h
 
@@ -67,7 +67,7 @@ all-right P names target (side.Column t) h =
 all-right P names target (side.Plus t n) h = all-summed P names target t n (added names.line n) h.0 h.1.0
 all-right P names target (side.Minus t n) h = all-summed P names target t n (taken names.line n) h.0 h.1.0
 
-all-column : (P : Fault → Type 0) (names : Names) (before : List Token) (t : Token) → At P t → All P (each (column_fault names before t))
+pub all-column : (P : Fault → Type 0) (names : Names) (before : List Token) (t : Token) → At P t → All P (each (column_fault names before t))
 all-column P names before t h = go (column_place names t)
   where
     go : (o : Option ℕ) → All P (each (option_map_or (λ p. unless (not (is_named names before p)) t Duplicate) o (at t Unknown)))
@@ -83,7 +83,7 @@ all-one P names before a h k = All-append P (each (column_fault names before a.c
 
 -- ---- a right side
 
-each-least : (o : Option Fault) → IsLeastOf o (each o)
+pub each-least : (o : Option Fault) → IsLeastOf o (each o)
 each-least None = refl
 each-least (Some f) = first-least f [] (beyond-none f.place)
 

@@ -15,3 +15,4 @@ pub mod Firsts
 pub mod EveryLaws
 pub mod StandingLaws
 pub mod EverySets
+pub mod EveryStatements

@@ -12,8 +12,10 @@ use Rattle.iso_grammar.specs.Faults.{at, is_sooner, unless}
 use Rattle.iso_sql.specs.declared.assignment.Right.{Right}
 use Rattle.iso_sql.specs.declared.assignment.Right.TheVariants as side
 use Rattle.iso_sql.specs.declared.assignment.Target.{Target}
+use Rattle.iso_sql.specs.declared.list.Chosen.{Chosen}
+use Rattle.iso_sql.specs.declared.list.Chosen.TheVariants as chosen
 use Rattle.iso_sql.specs.Actions.{added, literal_right, taken}
-use Rattle.iso_sql.specs.Names.{Names, column_of, column_place}
+use Rattle.iso_sql.specs.Names.{Names, column_of, column_place, table_fault}
 use Rattle.iso_sql.specs.Rows.{stores}
 use Rattle.iso_sql.specs.Sound.{is_assignable, is_number}
 
@@ -103,3 +105,40 @@ right_tokens (side.Minus t n) = t ∷ n ∷ []
 abbrev pub assigned_tokens : List Target → List Token
 assigned_tokens [] = []
 assigned_tokens (a ∷ as') = a.column ∷ right_tokens a.right ++ assigned_tokens as'
+
+-- ---- statements
+
+-- each literal that the column which the token in the same place names can't store; one for a column that is not declared may be any
+abbrev pub every_placed : Names → List Token → List Token → Token → List Fault
+every_placed names [] [] close = []
+every_placed names [] (v ∷ vs) close = each (at v TypeFault)
+every_placed names (t ∷ ts) [] close = each (at close TypeFault)
+every_placed names (t ∷ ts) (v ∷ vs) close = each (literal_right names.line (column_of names t) v) ++ every_placed names ts vs close
+
+-- all that is wrong with a row of literals for all columns, or for those that are listed
+abbrev pub every_row : Names → Option (List Token) → List Token → Token → List Fault
+every_row names None vs close = every_stored false names.line names.columns vs close
+every_row names (Some ts) vs close = every_listed names [] ts ++ every_placed names ts vs close
+
+abbrev pub every_item : Names → Chosen → List Fault
+every_item names (chosen.Columns ts) = every_listed names [] ts
+every_item names _ = []
+
+-- all that is wrong with a SELECT, an INSERT, an UPDATE; of a condition its least fault
+abbrev pub every_selected : Names → Chosen → Token → Option Fault → List Fault
+every_selected names items t cond = every_item names items ++ (each (table_fault names t) ++ each cond)
+
+abbrev pub every_inserted : Names → Token → Option (List Token) → List Token → Token → List Fault
+every_inserted names t columns vs close = each (table_fault names t) ++ every_row names columns vs close
+
+abbrev pub every_updated : Names → Token → List Target → Option Fault → List Fault
+every_updated names t targets cond = each (table_fault names t) ++ (every_assigned names [] targets ++ each cond)
+
+-- the tokens of a SELECT's columns, and those of an INSERT's columns and literals
+abbrev pub item_tokens : Chosen → List Token
+item_tokens (chosen.Columns ts) = ts
+item_tokens _ = []
+
+abbrev pub row_tokens : Option (List Token) → List Token → Token → List Token
+row_tokens None vs close = vs ++ close ∷ []
+row_tokens (Some ts) vs close = ts ++ (vs ++ close ∷ [])

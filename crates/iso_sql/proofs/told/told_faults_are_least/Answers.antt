@@ -3,6 +3,7 @@ use Rattle.iso_grammar.proofs.Rising.{rises}
 use Rattle.iso_grammar.specs.Lex.{tokens}
 use Rattle.iso_sql.proofs.EveryLaws.{listed-least, stored-least}
 use Rattle.iso_sql.proofs.EverySets.{assigned-least}
+use Rattle.iso_sql.proofs.EveryStatements.{inserted-least, selected-least, updated-least}
 use Rattle.iso_sql.proofs.StandingLaws.{standing-rise, starts-rise}
 use Rattle.iso_sql.proofs.told.told_faults_are_least.Goals as goal
 
@@ -17,3 +18,12 @@ returns-clause-literals c = stored-least
 
 pub returns-clause-assignments : goal.returns-clause-assignments
 returns-clause-assignments c = λ names targets n r. assigned-least names [] [] targets n (λ p. refl) r
+
+pub returns-clause-select : goal.returns-clause-select
+returns-clause-select c = selected-least
+
+pub returns-clause-insert : goal.returns-clause-insert
+returns-clause-insert c = inserted-least
+
+pub returns-clause-update : goal.returns-clause-update
+returns-clause-update c = updated-least
