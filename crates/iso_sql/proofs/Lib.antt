@@ -16,3 +16,4 @@ pub mod EveryLaws
 pub mod StandingLaws
 pub mod EverySets
 pub mod EveryStatements
+pub mod EveryTexts

@@ -6,6 +6,9 @@ use Rattle.std.specs.Prelude.{◌≡◌, ◌<◌, ◌⊎◌, ℕ, ℤ, Bool, fal
 use Rattle.iso_types.specs.declared.head.Column.{Column}
 use Rattle.iso_types.specs.declared.head.ColumnKind.{ColumnKind}
 use Rattle.iso_grammar.specs.declared.fault.Cause.TheVariants.{Unknown, TypeFault, Duplicate, Limit}
+use Rattle.iso_types.specs.declared.head.Head.{Head}
+use Rattle.iso_types.specs.declared.head.Isolation.{Isolation}
+use Rattle.iso_grammar.specs.declared.fault.Checked.{Checked}
 use Rattle.iso_grammar.specs.declared.fault.Fault.{Fault}
 use Rattle.iso_grammar.specs.declared.token.Token.{Token}
 use Rattle.iso_grammar.specs.Faults.{at, is_sooner, unless}
@@ -14,8 +17,10 @@ use Rattle.iso_sql.specs.declared.assignment.Right.TheVariants as side
 use Rattle.iso_sql.specs.declared.assignment.Target.{Target}
 use Rattle.iso_sql.specs.declared.list.Chosen.{Chosen}
 use Rattle.iso_sql.specs.declared.list.Chosen.TheVariants as chosen
-use Rattle.iso_sql.specs.Actions.{added, literal_right, taken}
-use Rattle.iso_sql.specs.Names.{Names, column_of, column_place, table_fault}
+use Rattle.iso_sql.specs.declared.statement.Condition.{Condition}
+use Rattle.iso_sql.specs.declared.statement.Statement.{Statement}
+use Rattle.iso_sql.specs.Actions.{added, inserted, literal_right, selected, taken, updated}
+use Rattle.iso_sql.specs.Names.{Names, column_of, column_place, table_fault, table_names}
 use Rattle.iso_sql.specs.Rows.{stores}
 use Rattle.iso_sql.specs.Sound.{is_assignable, is_number}
 
@@ -142,3 +147,23 @@ item_tokens _ = []
 abbrev pub row_tokens : Option (List Token) → List Token → Token → List Token
 row_tokens None vs close = vs ++ close ∷ []
 row_tokens (Some ts) vs close = ts ++ (vs ++ close ∷ [])
+
+-- ---- whole statements
+
+-- The tokens are a SELECT with these parts, and its fault is the least of all that is wrong with them.
+abbrev pub TellsSelect : Head → List ℕ → List Token → Checked Statement → Type 0
+TellsSelect head line tokens x =
+    (items : Chosen) × (t : Token) × (cond : Checked Condition) × (level : Option Isolation) × (x ≡ selected head line items t cond level) × StandIn (item_tokens items) tokens
+    × IsLeastOf x.fault (every_selected (table_names head line t) items t cond.fault)
+
+-- likewise an INSERT
+abbrev pub TellsInsert : Head → List ℕ → List Token → Checked Statement → Type 0
+TellsInsert head line tokens x =
+    (t : Token) × (columns : Option (List Token)) × (vs : List Token) × (close : Token) × (x ≡ inserted head line t columns vs close) × StandIn (row_tokens columns vs close) tokens
+    × IsLeastOf x.fault (every_inserted (table_names head line t) t columns vs close)
+
+-- likewise an UPDATE
+abbrev pub TellsUpdate : Head → List ℕ → List Token → Checked Statement → Type 0
+TellsUpdate head line tokens x =
+    (t : Token) × (targets : List Target) × (cond : Checked Condition) × (level : Option Isolation) × (x ≡ updated head line t targets cond level) × StandIn (assigned_tokens targets) tokens
+    × IsLeastOf x.fault (every_updated (table_names head line t) t targets cond.fault)

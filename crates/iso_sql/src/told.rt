@@ -4,7 +4,7 @@ ghost use Rattle.std.specs.Prelude.{◌≡◌, ◌++◌, ◌∷◌, ℕ, Bool, L
 ghost use Rattle.iso_grammar.specs.Lex.{tokens};
 ghost use Rattle.iso_grammar.specs.declared.token.Token as token;
 ghost use Rattle.iso_sql.specs.Actions as action;
-ghost use Rattle.iso_sql.specs.Every.{IsLeastOf, Rise, StandIn, assigned_tokens, every_assigned, every_inserted, every_listed, every_selected, every_stored, every_updated, item_tokens, row_tokens};
+ghost use Rattle.iso_sql.specs.Every.{IsLeastOf, Rise, StandIn, TellsInsert, TellsSelect, TellsUpdate, assigned_tokens, every_assigned, every_inserted, every_listed, every_selected, every_stored, every_updated, item_tokens, row_tokens};
 ghost use Rattle.iso_sql.specs.Names.{Names, table_names};
 ghost use Rattle.iso_sql.specs.Rows as row;
 ghost use Rattle.iso_grammar.specs.declared.fault.Checked as checked;
@@ -13,6 +13,8 @@ ghost use Rattle.iso_sql.specs.declared.list.Chosen as list;
 ghost use Rattle.iso_sql.specs.declared.statement.Condition as meant;
 ghost use Rattle.iso_types.specs.declared.head.Head as declared;
 ghost use Rattle.iso_types.specs.declared.head.Isolation as isolation;
+ghost use Rattle.iso_sql.specs.Statements as rule;
+ghost use Rattle.iso_sql.specs.declared.statement.Statement as statement;
 ghost use Rattle.iso_types.specs.declared.head.Column as column;
 
 /// In a list of columns, of literals or of assignments the fault that is told is the least of all that are wrong with it, since its tokens
@@ -25,4 +27,7 @@ pub fn told_faults_are_least()
     ensures select { (head : declared.Head) (line : List ℕ) (items : list.Chosen) (t : token.Token) (cond : checked.Checked meant.Condition) (level : Option isolation.Isolation) (n : ℕ) → Rise n (item_tokens items) → IsLeastOf (action.selected head line items t cond level).fault (every_selected (table_names head line t) items t cond.fault) }
     ensures insert { (head : declared.Head) (line : List ℕ) (t : token.Token) (columns : Option (List token.Token)) (literals : List token.Token) (close : token.Token) (n : ℕ) → Rise n (row_tokens columns literals close) → IsLeastOf (action.inserted head line t columns literals close).fault (every_inserted (table_names head line t) t columns literals close) }
     ensures update { (head : declared.Head) (line : List ℕ) (t : token.Token) (targets : List assignment.Target) (cond : checked.Checked meant.Condition) (level : Option isolation.Isolation) (n : ℕ) → Rise n (assigned_tokens targets) → IsLeastOf (action.updated head line t targets cond level).fault (every_updated (table_names head line t) t targets cond.fault) }
+    ensures select_text { (head : declared.Head) (text : List ℕ) (x : checked.Checked statement.Statement) → rule.select head text (tokens text) x → TellsSelect head text (tokens text) x }
+    ensures insert_text { (head : declared.Head) (text : List ℕ) (x : checked.Checked statement.Statement) → rule.insert head text (tokens text) x → TellsInsert head text (tokens text) x }
+    ensures update_text { (head : declared.Head) (text : List ℕ) (x : checked.Checked statement.Statement) → rule.update head text (tokens text) x → TellsUpdate head text (tokens text) x }
 {}
