@@ -11,11 +11,16 @@ use Rattle.iso_sql.specs.declared.list.Chosen.{Chosen}
 use Rattle.iso_sql.specs.declared.list.Listed.{Listed}
 use Rattle.iso_sql.specs.declared.list.Listed.TheVariants as listed
 use Rattle.iso_sql.specs.declared.statement.Statement.{Statement}
-use Rattle.iso_sql.specs.Every.{IsLeastOf, Rise, StandIn, TellsInsert, TellsSelect, TellsUpdate, assigned_tokens, every_inserted, every_selected, every_updated, item_tokens, right_tokens, row_tokens}
-use Rattle.iso_sql.specs.Names.{table_names}
+use Rattle.iso_sql.specs.Actions.{deleted}
+use Rattle.iso_grammar.specs.Lex.{tokens}
+use Rattle.iso_grammar.proofs.Rising.{rises}
+use Rattle.iso_sql.specs.Every.{IsLeastOf, Rise, StandIn, Tells, TellsDelete, TellsInsert, TellsSelect, TellsUpdate, assigned_tokens, each, every_inserted, every_selected, every_updated, item_tokens, right_tokens, row_tokens}
+use Rattle.iso_sql.specs.Names.{table_fault, table_names}
 use Rattle.iso_sql.specs.Statements as gs
+use Rattle.iso_sql.proofs.EverySets.{each-least}
 use Rattle.iso_sql.proofs.EveryStatements.{inserted-least, selected-least, updated-least}
-use Rattle.iso_sql.proofs.StandingLaws.{standing-rise}
+use Rattle.iso_sql.proofs.Firsts.{joined-least}
+use Rattle.iso_sql.proofs.StandingLaws.{standing-rise, starts-rise}
 
 -- ---- parts of lists
 
@@ -122,7 +127,7 @@ items-in ts x (inl w) = subst (λ (z : Chosen). StandIn (item_tokens z) ts) (sym
 items-in ts x (inr (inl w)) = subst (λ (z : Chosen). StandIn (item_tokens z) ts) (sym w.5.5.5.5.1) tt
 items-in ts x (inr (inr w)) = subst (λ (z : Chosen). StandIn (item_tokens z) ts) (sym w.5.1) (in-front w.0 w.1 w.2 ts w.3 (separated-in listed.Column w.1 w.0 w.4))
 
-pub select-told : (head : Head) (line : List ℕ) (ts : List Token) (x : Checked Statement) → Rise 0 ts → gs.select head line ts x → TellsSelect head line ts x
+select-told : (head : Head) (line : List ℕ) (ts : List Token) (x : Checked Statement) → Rise 0 ts → gs.select head line ts x → TellsSelect head line ts x
 select-told head line ts x r w =
     let is = w.5 in
     let t = is.5.5 in
@@ -131,7 +136,7 @@ select-told head line ts x r w =
     let s : StandIn (item_tokens is.0) ts = in-back (item_tokens is.0) w.1 w.2 ts w.3 (in-front (item_tokens is.0) is.1 is.2 w.2 is.3 (items-in is.1 is.0 is.4)) in
     (is.0, t.0, filter.0, level.0, level.5.1, s, subst (λ (z : Checked Statement). IsLeastOf z.fault (every_selected (table_names head line t.0) is.0 t.0 filter.0.fault)) (sym level.5.1) (selected-least head line is.0 t.0 filter.0 level.0 0 (rise-in ts (item_tokens is.0) s r)))
 
-pub update-told : (head : Head) (line : List ℕ) (ts : List Token) (x : Checked Statement) → Rise 0 ts → gs.update head line ts x → TellsUpdate head line ts x
+update-told : (head : Head) (line : List ℕ) (ts : List Token) (x : Checked Statement) → Rise 0 ts → gs.update head line ts x → TellsUpdate head line ts x
 update-told head line ts x r w =
     let t = w.5 in
     let set = t.5 in
@@ -151,7 +156,7 @@ row-in columns fs bs vs close (inl w) s =
     subst (λ (z : Option (List Token)). StandIn (row_tokens z vs close) (fs ++ bs)) (sym (w.5.1 ∙ ap Some same)) (both cs.0 (vs ++ close ∷ []) fs bs c s)
 row-in columns fs bs vs close (inr w) s = subst (λ (z : Option (List Token)). StandIn (row_tokens z vs close) (fs ++ bs)) (sym w.1) (behind (vs ++ close ∷ []) fs bs s)
 
-pub insert-told : (head : Head) (line : List ℕ) (ts : List Token) (x : Checked Statement) → Rise 0 ts → gs.insert head line ts x → TellsInsert head line ts x
+insert-told : (head : Head) (line : List ℕ) (ts : List Token) (x : Checked Statement) → Rise 0 ts → gs.insert head line ts x → TellsInsert head line ts x
 insert-told head line ts x r w =
     let into = w.5 in
     let t = into.5 in
@@ -168,3 +173,23 @@ insert-told head line ts x r w =
     let c : StandIn row t.2 = subst (λ (z : List Token). StandIn row z) (sym cs.3) (row-in cs.0 cs.1 cs.2 vs.0 close.0 cs.4 b) in
     let s : StandIn row ts = in-back row w.1 w.2 ts w.3 (in-back row into.1 into.2 w.2 into.3 (in-back row t.1 t.2 into.2 t.3 c)) in
     (t.0, cs.0, vs.0, close.0, close.5.1, s, subst (λ (z : Checked Statement). IsLeastOf z.fault (every_inserted (table_names head line t.0) t.0 cs.0 vs.0 close.0)) (sym close.5.1) (inserted-least head line t.0 cs.0 vs.0 close.0 0 (rise-in ts row s r)))
+
+delete-told : (head : Head) (line : List ℕ) (ts : List Token) (x : Checked Statement) → gs.delete head line ts x → TellsDelete head line ts x
+unfolding deleted
+delete-told head line ts x w =
+    let t = w.5.5 in
+    let filter = t.5 in
+    let level = filter.5 in
+    let table = table_fault (table_names head line t.0) t.0 in
+    (t.0, filter.0, level.0, level.5.1, subst (λ (z : Checked Statement). IsLeastOf z.fault (each table ++ each filter.0.fault)) (sym level.5.1) (joined-least table filter.0.fault (each table) (each filter.0.fault) (each-least table) (each-least filter.0.fault)))
+
+-- a statement tells the least of what is wrong with it
+told : (head : Head) (line : List ℕ) (ts : List Token) (x : Checked Statement) → Rise 0 ts → gs.statement head line ts x → Tells head line ts x
+told head line ts x r (inl w) = inl (select-told head line ts x r w)
+told head line ts x r (inr (inl w)) = inr (inl (insert-told head line ts x r w))
+told head line ts x r (inr (inr (inl w))) = inr (inr (inl (update-told head line ts x r w)))
+told head line ts x r (inr (inr (inr (inl w)))) = inr (inr (inr (inl (delete-told head line ts x w))))
+told head line ts x r (inr (inr (inr (inr w)))) = inr (inr (inr (inr w)))
+
+pub text-told : (head : Head) (text : List ℕ) (x : Checked Statement) → gs.statement head text (tokens text) x → Tells head text (tokens text) x
+text-told head text x w = told head text (tokens text) x (starts-rise 0 (tokens text) (rises text)) w

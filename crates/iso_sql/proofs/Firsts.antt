@@ -1,10 +1,10 @@
 -- The least of many faults, and the first.
 use Rattle.std.proofs.Common.{◌≡◌, ◌≤◌, ◌<◌, ◌+◌, ◌*◌, ℕ, Bool, true, false, cond, List, [], ◌∷◌, ◌++◌, Option, Some, None, refl, sym, ap, subst, ◌∙◌, inl, inr, arith}
 use Rattle.std.specs.Prelude.{◌&&◌, ◌||◌, ◌==◌, nat_lt}
-use Rattle.std.specs.List.{All}
+use Rattle.std.specs.List.{All, Contains}
 use Rattle.std.proofs.lemmas.Bool.{ltb-true}
 use Rattle.std.proofs.lemmas.List.{append-nil}
-use Rattle.std.proofs.lemmas.List.Elements.{All-append, All-cons, All-nil, All-weaker, Contains-append_left, Contains-append_right}
+use Rattle.std.proofs.lemmas.List.Elements.{All-append, All-cons, All-contains, All-nil, All-weaker, Contains-append_left, Contains-append_right}
 use Rattle.iso_grammar.specs.declared.fault.Cause.{Cause}
 use Rattle.iso_grammar.specs.declared.fault.Cause.TheVariants.{Unknown, TypeFault, Duplicate, Limit}
 use Rattle.iso_grammar.specs.declared.fault.Fault.{Fault}
@@ -98,3 +98,45 @@ beyond-unless n false t why lt = beyond-at n t why lt
 pub at-least : (t : Token) (why : Cause) (fs : List Fault) → Beyond t.start fs → IsLeastOf (at t why) (each (at t why) ++ fs)
 unfolding at
 at-least t why fs all = first-least (record { place = t.start; cause = why }) fs all
+
+-- ---- one least fault
+
+same-rank : (a b : Cause) → rank a ≡ rank b → a ≡ b
+same-rank Unknown Unknown e = refl
+same-rank TypeFault TypeFault e = refl
+same-rank Duplicate Duplicate e = refl
+same-rank Limit Limit e = refl
+same-rank Unknown TypeFault e = absurd (omega (arith, e))
+same-rank Unknown Duplicate e = absurd (omega (arith, e))
+same-rank Unknown Limit e = absurd (omega (arith, e))
+same-rank TypeFault Unknown e = absurd (omega (arith, e))
+same-rank TypeFault Duplicate e = absurd (omega (arith, e))
+same-rank TypeFault Limit e = absurd (omega (arith, e))
+same-rank Duplicate Unknown e = absurd (omega (arith, e))
+same-rank Duplicate TypeFault e = absurd (omega (arith, e))
+same-rank Duplicate Limit e = absurd (omega (arith, e))
+same-rank Limit Unknown e = absurd (omega (arith, e))
+same-rank Limit TypeFault e = absurd (omega (arith, e))
+same-rank Limit Duplicate e = absurd (omega (arith, e))
+
+same-key : (f g : Fault) → key f ≤ key g → key g ≤ key f → f ≡ g
+same-key f g a b =
+    let p : f.place ≡ g.place = omega (arith, a, b, rank-small f.cause, rank-small g.cause) in
+    let r : rank f.cause ≡ rank g.cause = omega (arith, a, b, rank-small f.cause, rank-small g.cause) in
+    ap (λ (n : ℕ). record { place = n; cause = f.cause }) p ∙ ap (λ (c : Cause). record { place = g.place; cause = c }) (same-rank f.cause g.cause r)
+
+none-in : {A : Type 0} (fs : List Fault) (f : Fault) → fs ≡ [] → Contains fs f → A
+none-in [] f e w = absurd (omega (arith, w.1))
+none-in (g ∷ fs) f e w = absurd (no-cons g fs e)
+  where
+    no-cons : (h : Fault) (hs : List Fault) → h ∷ hs ≡ [] → ⊥
+    no-cons h hs e = cc
+
+pub one-least : (fs : List Fault) (a b : Option Fault) → IsLeastOf a fs → IsLeastOf b fs → a ≡ b
+one-least fs None None x y = refl
+one-least fs None (Some g) x y = none-in fs g x y.0
+one-least fs (Some f) None x y = none-in fs f y x.0
+one-least fs (Some f) (Some g) x y =
+    let p : is_sooner f g ≡ false = All-contains (λ h. is_sooner h g ≡ false) fs f y.1 x.0 in
+    let q : is_sooner g f ≡ false = All-contains (λ h. is_sooner h f ≡ false) fs g x.1 y.0 in
+    ap Some (same-key f g (key-least g f q) (key-least f g p))

@@ -1,5 +1,4 @@
--- All that is wrong with the parts of a statement, whichever of it is told.
--- this project's own: a line is refused at the least place at which anything is wrong with it
+-- All that is wrong with the parts of a statement, and which of it is told. // this project's own: a line is refused at the least place at which anything is wrong with it
 use Rattle.std.specs.List.{All, Contains, list_any}
 use Rattle.std.specs.Option.{option_map_or}
 use Rattle.std.specs.Prelude.{◌≡◌, ◌<◌, ◌⊎◌, ℕ, ℤ, Bool, false, not, ◌==◌, ◌&&◌, List, [], ◌∷◌, ◌++◌, Option, Some, None, is_some}
@@ -19,10 +18,11 @@ use Rattle.iso_sql.specs.declared.list.Chosen.{Chosen}
 use Rattle.iso_sql.specs.declared.list.Chosen.TheVariants as chosen
 use Rattle.iso_sql.specs.declared.statement.Condition.{Condition}
 use Rattle.iso_sql.specs.declared.statement.Statement.{Statement}
-use Rattle.iso_sql.specs.Actions.{added, inserted, literal_right, selected, taken, updated}
+use Rattle.iso_sql.specs.Actions.{added, deleted, inserted, literal_right, selected, taken, updated}
 use Rattle.iso_sql.specs.Names.{Names, column_of, column_place, table_fault, table_names}
 use Rattle.iso_sql.specs.Rows.{stores}
 use Rattle.iso_sql.specs.Sound.{is_assignable, is_number}
+use Rattle.iso_sql.specs.Statements.{short_statement}
 
 -- the fault, where there is one
 abbrev pub each : Option Fault → List Fault
@@ -167,3 +167,12 @@ abbrev pub TellsUpdate : Head → List ℕ → List Token → Checked Statement 
 TellsUpdate head line tokens x =
     (t : Token) × (targets : List Target) × (cond : Checked Condition) × (level : Option Isolation) × (x ≡ updated head line t targets cond level) × StandIn (assigned_tokens targets) tokens
     × IsLeastOf x.fault (every_updated (table_names head line t) t targets cond.fault)
+
+-- likewise a DELETE
+abbrev pub TellsDelete : Head → List ℕ → List Token → Checked Statement → Type 0
+TellsDelete head line tokens x =
+    (t : Token) × (cond : Checked Condition) × (level : Option Isolation) × (x ≡ deleted head line t cond level) × IsLeastOf x.fault (each (table_fault (table_names head line t) t) ++ each cond.fault)
+
+-- one of these four, or another statement, with which one thing can be wrong at most
+abbrev pub Tells : Head → List ℕ → List Token → Checked Statement → Type 0
+Tells head line tokens x = TellsSelect head line tokens x ⊎ (TellsInsert head line tokens x ⊎ (TellsUpdate head line tokens x ⊎ (TellsDelete head line tokens x ⊎ short_statement head line tokens x)))

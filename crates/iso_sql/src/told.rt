@@ -2,9 +2,10 @@
 
 ghost use Rattle.std.specs.Prelude.{◌≡◌, ◌++◌, ◌∷◌, ℕ, Bool, List, [], Option};
 ghost use Rattle.iso_grammar.specs.Lex.{tokens};
+ghost use Rattle.iso_grammar.specs.declared.fault.Fault as fault;
 ghost use Rattle.iso_grammar.specs.declared.token.Token as token;
 ghost use Rattle.iso_sql.specs.Actions as action;
-ghost use Rattle.iso_sql.specs.Every.{IsLeastOf, Rise, StandIn, TellsInsert, TellsSelect, TellsUpdate, assigned_tokens, every_assigned, every_inserted, every_listed, every_selected, every_stored, every_updated, item_tokens, row_tokens};
+ghost use Rattle.iso_sql.specs.Every.{IsLeastOf, Rise, StandIn, Tells, assigned_tokens, every_assigned, every_inserted, every_listed, every_selected, every_stored, every_updated, item_tokens, row_tokens};
 ghost use Rattle.iso_sql.specs.Names.{Names, table_names};
 ghost use Rattle.iso_sql.specs.Rows as row;
 ghost use Rattle.iso_grammar.specs.declared.fault.Checked as checked;
@@ -17,8 +18,10 @@ ghost use Rattle.iso_sql.specs.Statements as rule;
 ghost use Rattle.iso_sql.specs.declared.statement.Statement as statement;
 ghost use Rattle.iso_types.specs.declared.head.Column as column;
 
-/// In a list of columns, of literals or of assignments the fault that is told is the least of all that are wrong with it, since its tokens
-/// rise in their line. This project's own.
+/// The fault that is told is the least of all that is wrong: at the least place, and there the first of UNKNOWN, TYPE,
+/// DUPLICATE and LIMIT. A list of columns, of literals or of assignments is left at its first fault, which is the least since
+/// the tokens of a list rise; `rise` says that they do wherever they stand in a line, `text` that they stand in the text of
+/// each statement. Of a condition its own least fault counts. `one`: many faults have one least. This project's own.
 pub fn told_faults_are_least()
     ensures rise { (line : List ℕ) (ts : List token.Token) → StandIn ts (tokens line) → Rise 0 ts }
     ensures columns { (names : Names) (ts : List token.Token) (n : ℕ) → Rise n ts → IsLeastOf (action.listed names [] ts).fault (every_listed names [] ts) }
@@ -27,7 +30,6 @@ pub fn told_faults_are_least()
     ensures select { (head : declared.Head) (line : List ℕ) (items : list.Chosen) (t : token.Token) (cond : checked.Checked meant.Condition) (level : Option isolation.Isolation) (n : ℕ) → Rise n (item_tokens items) → IsLeastOf (action.selected head line items t cond level).fault (every_selected (table_names head line t) items t cond.fault) }
     ensures insert { (head : declared.Head) (line : List ℕ) (t : token.Token) (columns : Option (List token.Token)) (literals : List token.Token) (close : token.Token) (n : ℕ) → Rise n (row_tokens columns literals close) → IsLeastOf (action.inserted head line t columns literals close).fault (every_inserted (table_names head line t) t columns literals close) }
     ensures update { (head : declared.Head) (line : List ℕ) (t : token.Token) (targets : List assignment.Target) (cond : checked.Checked meant.Condition) (level : Option isolation.Isolation) (n : ℕ) → Rise n (assigned_tokens targets) → IsLeastOf (action.updated head line t targets cond level).fault (every_updated (table_names head line t) t targets cond.fault) }
-    ensures select_text { (head : declared.Head) (text : List ℕ) (x : checked.Checked statement.Statement) → rule.select head text (tokens text) x → TellsSelect head text (tokens text) x }
-    ensures insert_text { (head : declared.Head) (text : List ℕ) (x : checked.Checked statement.Statement) → rule.insert head text (tokens text) x → TellsInsert head text (tokens text) x }
-    ensures update_text { (head : declared.Head) (text : List ℕ) (x : checked.Checked statement.Statement) → rule.update head text (tokens text) x → TellsUpdate head text (tokens text) x }
+    ensures text { (head : declared.Head) (text : List ℕ) (x : checked.Checked statement.Statement) → rule.statement head text (tokens text) x → Tells head text (tokens text) x }
+    ensures one { (fs : List fault.Fault) (a b : Option fault.Fault) → IsLeastOf a fs → IsLeastOf b fs → a ≡ b }
 {}

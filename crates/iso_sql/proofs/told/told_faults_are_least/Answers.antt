@@ -4,7 +4,8 @@ use Rattle.iso_grammar.specs.Lex.{tokens}
 use Rattle.iso_sql.proofs.EveryLaws.{listed-least, stored-least}
 use Rattle.iso_sql.proofs.EverySets.{assigned-least}
 use Rattle.iso_sql.proofs.EveryStatements.{inserted-least, selected-least, updated-least}
-use Rattle.iso_sql.proofs.EveryTexts.{insert-told, select-told, update-told}
+use Rattle.iso_sql.proofs.EveryTexts.{text-told}
+use Rattle.iso_sql.proofs.Firsts.{one-least}
 use Rattle.iso_sql.proofs.StandingLaws.{standing-rise, starts-rise}
 use Rattle.iso_sql.proofs.told.told_faults_are_least.Goals as goal
 
@@ -29,11 +30,8 @@ returns-clause-insert c = inserted-least
 pub returns-clause-update : goal.returns-clause-update
 returns-clause-update c = updated-least
 
-pub returns-clause-select_text : goal.returns-clause-select_text
-returns-clause-select_text c = λ head text x w. select-told head text (tokens text) x (starts-rise 0 (tokens text) (rises text)) w
+pub returns-clause-text : goal.returns-clause-text
+returns-clause-text c = text-told
 
-pub returns-clause-insert_text : goal.returns-clause-insert_text
-returns-clause-insert_text c = λ head text x w. insert-told head text (tokens text) x (starts-rise 0 (tokens text) (rises text)) w
-
-pub returns-clause-update_text : goal.returns-clause-update_text
-returns-clause-update_text c = λ head text x w. update-told head text (tokens text) x (starts-rise 0 (tokens text) (rises text)) w
+pub returns-clause-one : goal.returns-clause-one
+returns-clause-one c = one-least
