@@ -1,7 +1,9 @@
 -- The lists of a statement stand in its line.
 use Rattle.std.proofs.Common.{◌≡◌, ℕ, List, [], ◌∷◌, ◌++◌, Option, Some, refl, sym, ap, subst, ◌∙◌, ◌⊎◌, inl, inr}
+use Rattle.std.proofs.lemmas.List.{append-nil}
 use Rattle.iso_types.specs.declared.head.Head.{Head}
 use Rattle.iso_grammar.specs.declared.fault.Checked.{Checked}
+use Rattle.iso_grammar.specs.declared.fault.Fault.{Fault}
 use Rattle.iso_grammar.specs.declared.token.Kind.TheVariants as k
 use Rattle.iso_grammar.specs.declared.token.Token.{Token}
 use Rattle.iso_grammar.specs.Grammar.{many, optional, token, ◌>>◌}
@@ -14,8 +16,9 @@ use Rattle.iso_sql.specs.declared.statement.Statement.{Statement}
 use Rattle.iso_sql.specs.Actions.{deleted}
 use Rattle.iso_grammar.specs.Lex.{tokens}
 use Rattle.iso_grammar.proofs.Rising.{rises}
-use Rattle.iso_sql.specs.Every.{IsLeastOf, Rise, StandIn, Tells, TellsDelete, TellsInsert, TellsSelect, TellsUpdate, assigned_tokens, each, every_inserted, every_selected, every_updated, item_tokens, right_tokens, row_tokens}
+use Rattle.iso_sql.specs.Every.{IsLeastOf, Rise, StandIn, assigned_tokens, each, every_inserted, every_selected, every_updated, item_tokens, right_tokens, row_tokens}
 use Rattle.iso_sql.specs.Names.{table_fault, table_names}
+use Rattle.iso_sql.specs.Every as ev
 use Rattle.iso_sql.specs.Statements as gs
 use Rattle.iso_sql.proofs.EverySets.{each-least}
 use Rattle.iso_sql.proofs.EveryStatements.{inserted-least, selected-least, updated-least}
@@ -127,17 +130,20 @@ items-in ts x (inl w) = subst (λ (z : Chosen). StandIn (item_tokens z) ts) (sym
 items-in ts x (inr (inl w)) = subst (λ (z : Chosen). StandIn (item_tokens z) ts) (sym w.5.5.5.5.1) tt
 items-in ts x (inr (inr w)) = subst (λ (z : Chosen). StandIn (item_tokens z) ts) (sym w.5.1) (in-front w.0 w.1 w.2 ts w.3 (separated-in listed.Column w.1 w.0 w.4))
 
-select-told : (head : Head) (line : List ℕ) (ts : List Token) (x : Checked Statement) → Rise 0 ts → gs.select head line ts x → TellsSelect head line ts x
-select-told head line ts x r w =
+abbrev IsLeast : Checked Statement × List Fault → Type 0
+IsLeast p = IsLeastOf p.0.fault p.1
+
+select-told : (head : Head) (line : List ℕ) (ts : List Token) (p : Checked Statement × List Fault) → Rise 0 ts → ev.select head line ts p → IsLeast p
+select-told head line ts p r w =
     let is = w.5 in
     let t = is.5.5 in
     let filter = t.5 in
     let level = filter.5 in
     let s : StandIn (item_tokens is.0) ts = in-back (item_tokens is.0) w.1 w.2 ts w.3 (in-front (item_tokens is.0) is.1 is.2 w.2 is.3 (items-in is.1 is.0 is.4)) in
-    (is.0, t.0, filter.0, level.0, level.5.1, s, subst (λ (z : Checked Statement). IsLeastOf z.fault (every_selected (table_names head line t.0) is.0 t.0 filter.0.fault)) (sym level.5.1) (selected-least head line is.0 t.0 filter.0 level.0 0 (rise-in ts (item_tokens is.0) s r)))
+    subst IsLeast (sym level.5.1) (selected-least head line is.0 t.0 filter.0 level.0 0 (rise-in ts (item_tokens is.0) s r))
 
-update-told : (head : Head) (line : List ℕ) (ts : List Token) (x : Checked Statement) → Rise 0 ts → gs.update head line ts x → TellsUpdate head line ts x
-update-told head line ts x r w =
+update-told : (head : Head) (line : List ℕ) (ts : List Token) (p : Checked Statement × List Fault) → Rise 0 ts → ev.update head line ts p → IsLeast p
+update-told head line ts p r w =
     let t = w.5 in
     let set = t.5 in
     let as' = set.5 in
@@ -146,7 +152,7 @@ update-told head line ts x r w =
     let s : StandIn (assigned_tokens as'.0) ts =
     in-back (assigned_tokens as'.0) w.1 w.2 ts w.3 (in-back (assigned_tokens as'.0) t.1 t.2 w.2 t.3 (in-back (assigned_tokens as'.0) set.1 set.2 t.2 set.3 (in-front (assigned_tokens as'.0) as'.1 as'.2 set.2 as'.3 (assignments-in as'.1 as'.0 as'.4))))
     in
-    (t.0, as'.0, filter.0, level.0, level.5.1, s, subst (λ (z : Checked Statement). IsLeastOf z.fault (every_updated (table_names head line t.0) t.0 as'.0 filter.0.fault)) (sym level.5.1) (updated-least head line t.0 as'.0 filter.0 level.0 0 (rise-in ts (assigned_tokens as'.0) s r)))
+    subst IsLeast (sym level.5.1) (updated-least head line t.0 as'.0 filter.0 level.0 0 (rise-in ts (assigned_tokens as'.0) s r))
 
 row-in : (columns : Option (List Token)) (fs bs vs : List Token) (close : Token) → optional gs.column_list fs columns → StandIn (vs ++ close ∷ []) bs → StandIn (row_tokens columns vs close) (fs ++ bs)
 row-in columns fs bs vs close (inl w) s =
@@ -156,8 +162,8 @@ row-in columns fs bs vs close (inl w) s =
     subst (λ (z : Option (List Token)). StandIn (row_tokens z vs close) (fs ++ bs)) (sym (w.5.1 ∙ ap Some same)) (both cs.0 (vs ++ close ∷ []) fs bs c s)
 row-in columns fs bs vs close (inr w) s = subst (λ (z : Option (List Token)). StandIn (row_tokens z vs close) (fs ++ bs)) (sym w.1) (behind (vs ++ close ∷ []) fs bs s)
 
-insert-told : (head : Head) (line : List ℕ) (ts : List Token) (x : Checked Statement) → Rise 0 ts → gs.insert head line ts x → TellsInsert head line ts x
-insert-told head line ts x r w =
+insert-told : (head : Head) (line : List ℕ) (ts : List Token) (p : Checked Statement × List Fault) → Rise 0 ts → ev.insert head line ts p → IsLeast p
+insert-told head line ts p r w =
     let into = w.5 in
     let t = into.5 in
     let cs = t.5 in
@@ -172,24 +178,129 @@ insert-told head line ts x r w =
     let row = row_tokens cs.0 vs.0 close.0 in
     let c : StandIn row t.2 = subst (λ (z : List Token). StandIn row z) (sym cs.3) (row-in cs.0 cs.1 cs.2 vs.0 close.0 cs.4 b) in
     let s : StandIn row ts = in-back row w.1 w.2 ts w.3 (in-back row into.1 into.2 w.2 into.3 (in-back row t.1 t.2 into.2 t.3 c)) in
-    (t.0, cs.0, vs.0, close.0, close.5.1, s, subst (λ (z : Checked Statement). IsLeastOf z.fault (every_inserted (table_names head line t.0) t.0 cs.0 vs.0 close.0)) (sym close.5.1) (inserted-least head line t.0 cs.0 vs.0 close.0 0 (rise-in ts row s r)))
+    subst IsLeast (sym close.5.1) (inserted-least head line t.0 cs.0 vs.0 close.0 0 (rise-in ts row s r))
 
-delete-told : (head : Head) (line : List ℕ) (ts : List Token) (x : Checked Statement) → gs.delete head line ts x → TellsDelete head line ts x
+delete-told : (head : Head) (line : List ℕ) (ts : List Token) (p : Checked Statement × List Fault) → ev.delete head line ts p → IsLeast p
 unfolding deleted
-delete-told head line ts x w =
+delete-told head line ts p w =
     let t = w.5.5 in
     let filter = t.5 in
-    let level = filter.5 in
     let table = table_fault (table_names head line t.0) t.0 in
-    (t.0, filter.0, level.0, level.5.1, subst (λ (z : Checked Statement). IsLeastOf z.fault (each table ++ each filter.0.fault)) (sym level.5.1) (joined-least table filter.0.fault (each table) (each filter.0.fault) (each-least table) (each-least filter.0.fault)))
+    subst IsLeast (sym filter.5.5.1) (joined-least table filter.0.fault (each table) (each filter.0.fault) (each-least table) (each-least filter.0.fault))
+
+short-told : (head : Head) (line : List ℕ) (ts : List Token) (p : Checked Statement × List Fault) → ev.short head line ts p → IsLeast p
+short-told head line ts p w = subst IsLeast (sym w.5.1) (each-least w.0.fault)
 
 -- a statement tells the least of what is wrong with it
-told : (head : Head) (line : List ℕ) (ts : List Token) (x : Checked Statement) → Rise 0 ts → gs.statement head line ts x → Tells head line ts x
-told head line ts x r (inl w) = inl (select-told head line ts x r w)
-told head line ts x r (inr (inl w)) = inr (inl (insert-told head line ts x r w))
-told head line ts x r (inr (inr (inl w))) = inr (inr (inl (update-told head line ts x r w)))
-told head line ts x r (inr (inr (inr (inl w)))) = inr (inr (inr (inl (delete-told head line ts x w))))
-told head line ts x r (inr (inr (inr (inr w)))) = inr (inr (inr (inr w)))
+told : (head : Head) (line : List ℕ) (ts : List Token) (p : Checked Statement × List Fault) → Rise 0 ts → ev.faulty head line ts p → IsLeast p
+told head line ts p r (inl w) = select-told head line ts p r w
+told head line ts p r (inr (inl w)) = insert-told head line ts p r w
+told head line ts p r (inr (inr (inl w))) = update-told head line ts p r w
+told head line ts p r (inr (inr (inr (inl w)))) = delete-told head line ts p w
+told head line ts p r (inr (inr (inr (inr w)))) = short-told head line ts p w
 
-pub text-told : (head : Head) (text : List ℕ) (x : Checked Statement) → gs.statement head text (tokens text) x → Tells head text (tokens text) x
-text-told head text x w = told head text (tokens text) x (starts-rise 0 (tokens text) (rises text)) w
+pub text-told : (head : Head) (text : List ℕ) (x : Checked Statement) (fs : List Fault) → ev.faulty head text (tokens text) (x, fs) → IsLeastOf x.fault fs
+text-told head text x fs w = told head text (tokens text) (x, fs) (starts-rise 0 (tokens text) (rises text)) w
+
+-- ---- each statement with all that is wrong with it
+
+select-has : (head : Head) (line : List ℕ) (ts : List Token) (x : Checked Statement) → gs.select head line ts x → (fs : List Fault) × ev.select head line ts (x, fs)
+select-has head line ts x w =
+    let w1 = w.5 in
+    let w2 = w1.5 in
+    let w3 = w2.5 in
+    let w4 = w3.5 in
+    let w5 = w4.5 in
+    let fs = every_selected (table_names head line w3.0) w1.0 w3.0 w4.0.fault in
+    (fs, (w.0, w.1, w.2, w.3, w.4, (w1.0, w1.1, w1.2, w1.3, w1.4, (w2.0, w2.1, w2.2, w2.3, w2.4, (w3.0, w3.1, w3.2, w3.3, w3.4, (w4.0, w4.1, w4.2, w4.3, w4.4, (w5.0, w5.1, w5.2, w5.3, w5.4, (w5.5.0, ap (λ (z : Checked Statement). (z, fs)) w5.5.1))))))))
+
+select-is : (head : Head) (line : List ℕ) (ts : List Token) (x : Checked Statement) (fs : List Fault) → ev.select head line ts (x, fs) → gs.select head line ts x
+select-is head line ts x fs w =
+    let w1 = w.5 in
+    let w2 = w1.5 in
+    let w3 = w2.5 in
+    let w4 = w3.5 in
+    let w5 = w4.5 in
+    (w.0, w.1, w.2, w.3, w.4, (w1.0, w1.1, w1.2, w1.3, w1.4, (w2.0, w2.1, w2.2, w2.3, w2.4, (w3.0, w3.1, w3.2, w3.3, w3.4, (w4.0, w4.1, w4.2, w4.3, w4.4, (w5.0, w5.1, w5.2, w5.3, w5.4, (w5.5.0, ap (λ (p : Checked Statement × List Fault). p.0) w5.5.1)))))))
+
+insert-has : (head : Head) (line : List ℕ) (ts : List Token) (x : Checked Statement) → gs.insert head line ts x → (fs : List Fault) × ev.insert head line ts (x, fs)
+insert-has head line ts x w =
+    let w1 = w.5 in
+    let w2 = w1.5 in
+    let w3 = w2.5 in
+    let w4 = w3.5 in
+    let w5 = w4.5 in
+    let w6 = w5.5 in
+    let w7 = w6.5 in
+    let fs = every_inserted (table_names head line w2.0) w2.0 w3.0 w6.0 w7.0 in
+    (fs, (w.0, w.1, w.2, w.3, w.4, (w1.0, w1.1, w1.2, w1.3, w1.4, (w2.0, w2.1, w2.2, w2.3, w2.4, (w3.0, w3.1, w3.2, w3.3, w3.4, (w4.0, w4.1, w4.2, w4.3, w4.4, (w5.0, w5.1, w5.2, w5.3, w5.4, (w6.0, w6.1, w6.2, w6.3, w6.4, (w7.0, w7.1, w7.2, w7.3, w7.4, (w7.5.0, ap (λ (z : Checked Statement). (z, fs)) w7.5.1))))))))))
+
+insert-is : (head : Head) (line : List ℕ) (ts : List Token) (x : Checked Statement) (fs : List Fault) → ev.insert head line ts (x, fs) → gs.insert head line ts x
+insert-is head line ts x fs w =
+    let w1 = w.5 in
+    let w2 = w1.5 in
+    let w3 = w2.5 in
+    let w4 = w3.5 in
+    let w5 = w4.5 in
+    let w6 = w5.5 in
+    let w7 = w6.5 in
+    (w.0, w.1, w.2, w.3, w.4, (w1.0, w1.1, w1.2, w1.3, w1.4, (w2.0, w2.1, w2.2, w2.3, w2.4, (w3.0, w3.1, w3.2, w3.3, w3.4, (w4.0, w4.1, w4.2, w4.3, w4.4, (w5.0, w5.1, w5.2, w5.3, w5.4, (w6.0, w6.1, w6.2, w6.3, w6.4, (w7.0, w7.1, w7.2, w7.3, w7.4, (w7.5.0, ap (λ (p : Checked Statement × List Fault). p.0) w7.5.1)))))))))
+
+update-has : (head : Head) (line : List ℕ) (ts : List Token) (x : Checked Statement) → gs.update head line ts x → (fs : List Fault) × ev.update head line ts (x, fs)
+update-has head line ts x w =
+    let w1 = w.5 in
+    let w2 = w1.5 in
+    let w3 = w2.5 in
+    let w4 = w3.5 in
+    let w5 = w4.5 in
+    let fs = every_updated (table_names head line w1.0) w1.0 w3.0 w4.0.fault in
+    (fs, (w.0, w.1, w.2, w.3, w.4, (w1.0, w1.1, w1.2, w1.3, w1.4, (w2.0, w2.1, w2.2, w2.3, w2.4, (w3.0, w3.1, w3.2, w3.3, w3.4, (w4.0, w4.1, w4.2, w4.3, w4.4, (w5.0, w5.1, w5.2, w5.3, w5.4, (w5.5.0, ap (λ (z : Checked Statement). (z, fs)) w5.5.1))))))))
+
+update-is : (head : Head) (line : List ℕ) (ts : List Token) (x : Checked Statement) (fs : List Fault) → ev.update head line ts (x, fs) → gs.update head line ts x
+update-is head line ts x fs w =
+    let w1 = w.5 in
+    let w2 = w1.5 in
+    let w3 = w2.5 in
+    let w4 = w3.5 in
+    let w5 = w4.5 in
+    (w.0, w.1, w.2, w.3, w.4, (w1.0, w1.1, w1.2, w1.3, w1.4, (w2.0, w2.1, w2.2, w2.3, w2.4, (w3.0, w3.1, w3.2, w3.3, w3.4, (w4.0, w4.1, w4.2, w4.3, w4.4, (w5.0, w5.1, w5.2, w5.3, w5.4, (w5.5.0, ap (λ (p : Checked Statement × List Fault). p.0) w5.5.1)))))))
+
+delete-has : (head : Head) (line : List ℕ) (ts : List Token) (x : Checked Statement) → gs.delete head line ts x → (fs : List Fault) × ev.delete head line ts (x, fs)
+delete-has head line ts x w =
+    let w1 = w.5 in
+    let w2 = w1.5 in
+    let w3 = w2.5 in
+    let w4 = w3.5 in
+    let fs = each (table_fault (table_names head line w2.0) w2.0) ++ each w3.0.fault in
+    (fs, (w.0, w.1, w.2, w.3, w.4, (w1.0, w1.1, w1.2, w1.3, w1.4, (w2.0, w2.1, w2.2, w2.3, w2.4, (w3.0, w3.1, w3.2, w3.3, w3.4, (w4.0, w4.1, w4.2, w4.3, w4.4, (w4.5.0, ap (λ (z : Checked Statement). (z, fs)) w4.5.1)))))))
+
+delete-is : (head : Head) (line : List ℕ) (ts : List Token) (x : Checked Statement) (fs : List Fault) → ev.delete head line ts (x, fs) → gs.delete head line ts x
+delete-is head line ts x fs w =
+    let w1 = w.5 in
+    let w2 = w1.5 in
+    let w3 = w2.5 in
+    let w4 = w3.5 in
+    (w.0, w.1, w.2, w.3, w.4, (w1.0, w1.1, w1.2, w1.3, w1.4, (w2.0, w2.1, w2.2, w2.3, w2.4, (w3.0, w3.1, w3.2, w3.3, w3.4, (w4.0, w4.1, w4.2, w4.3, w4.4, (w4.5.0, ap (λ (p : Checked Statement × List Fault). p.0) w4.5.1))))))
+
+short-has : (head : Head) (line : List ℕ) (ts : List Token) (x : Checked Statement) → gs.short_statement head line ts x → (fs : List Fault) × ev.short head line ts (x, fs)
+short-has head line ts x w = (each x.fault, (x, ts, [], sym (append-nil ts), w, (refl, refl)))
+
+short-is : (head : Head) (line : List ℕ) (ts : List Token) (x : Checked Statement) (fs : List Fault) → ev.short head line ts (x, fs) → gs.short_statement head line ts x
+short-is head line ts x fs w =
+    let same : x ≡ w.0 = ap (λ (p : Checked Statement × List Fault). p.0) w.5.1 in
+    let all : ts ≡ w.1 = w.3 ∙ ap (λ (z : List Token). w.1 ++ z) w.5.0 ∙ append-nil w.1 in
+    subst (λ (z : Checked Statement). gs.short_statement head line ts z) (sym same) (subst (λ (z : List Token). gs.short_statement head line z w.0) (sym all) w.4)
+
+pub text-has : (head : Head) (line : List ℕ) (ts : List Token) (x : Checked Statement) → gs.statement head line ts x → (fs : List Fault) × ev.faulty head line ts (x, fs)
+text-has head line ts x (inl w) = let m = select-has head line ts x w in (m.0, inl m.1)
+text-has head line ts x (inr (inl w)) = let m = insert-has head line ts x w in (m.0, inr (inl m.1))
+text-has head line ts x (inr (inr (inl w))) = let m = update-has head line ts x w in (m.0, inr (inr (inl m.1)))
+text-has head line ts x (inr (inr (inr (inl w)))) = let m = delete-has head line ts x w in (m.0, inr (inr (inr (inl m.1))))
+text-has head line ts x (inr (inr (inr (inr w)))) = let m = short-has head line ts x w in (m.0, inr (inr (inr (inr m.1))))
+
+pub text-is : (head : Head) (line : List ℕ) (ts : List Token) (x : Checked Statement) (fs : List Fault) → ev.faulty head line ts (x, fs) → gs.statement head line ts x
+text-is head line ts x fs (inl w) = inl (select-is head line ts x fs w)
+text-is head line ts x fs (inr (inl w)) = inr (inl (insert-is head line ts x fs w))
+text-is head line ts x fs (inr (inr (inl w))) = inr (inr (inl (update-is head line ts x fs w)))
+text-is head line ts x fs (inr (inr (inr (inl w)))) = inr (inr (inr (inl (delete-is head line ts x fs w))))
+text-is head line ts x fs (inr (inr (inr (inr w)))) = inr (inr (inr (inr (short-is head line ts x fs w))))

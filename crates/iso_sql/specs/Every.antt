@@ -6,7 +6,6 @@ use Rattle.iso_types.specs.declared.head.Column.{Column}
 use Rattle.iso_types.specs.declared.head.ColumnKind.{ColumnKind}
 use Rattle.iso_grammar.specs.declared.fault.Cause.TheVariants.{Unknown, TypeFault, Duplicate, Limit}
 use Rattle.iso_types.specs.declared.head.Head.{Head}
-use Rattle.iso_types.specs.declared.head.Isolation.{Isolation}
 use Rattle.iso_grammar.specs.declared.fault.Checked.{Checked}
 use Rattle.iso_grammar.specs.declared.fault.Fault.{Fault}
 use Rattle.iso_grammar.specs.declared.token.Token.{Token}
@@ -16,13 +15,15 @@ use Rattle.iso_sql.specs.declared.assignment.Right.TheVariants as side
 use Rattle.iso_sql.specs.declared.assignment.Target.{Target}
 use Rattle.iso_sql.specs.declared.list.Chosen.{Chosen}
 use Rattle.iso_sql.specs.declared.list.Chosen.TheVariants as chosen
-use Rattle.iso_sql.specs.declared.statement.Condition.{Condition}
 use Rattle.iso_sql.specs.declared.statement.Statement.{Statement}
 use Rattle.iso_sql.specs.Actions.{added, deleted, inserted, literal_right, selected, taken, updated}
 use Rattle.iso_sql.specs.Names.{Names, column_of, column_place, table_fault, table_names}
 use Rattle.iso_sql.specs.Rows.{stores}
 use Rattle.iso_sql.specs.Sound.{is_assignable, is_number}
-use Rattle.iso_sql.specs.Statements.{short_statement}
+use Rattle.iso_grammar.specs.declared.token.Kind.TheVariants as k
+use Rattle.iso_grammar.specs.Grammar.{Lang, pure, ◌>>=◌, ◌>>◌, ◌<|>◌, token, optional}
+use Rattle.iso_sql.specs.declared.list.Listed.TheVariants as listed
+use Rattle.iso_sql.specs.Statements.{assignments, column_list, filter, items, level, separated, short_statement}
 
 -- the fault, where there is one
 abbrev pub each : Option Fault → List Fault
@@ -148,31 +149,53 @@ abbrev pub row_tokens : Option (List Token) → List Token → Token → List To
 row_tokens None vs close = vs ++ close ∷ []
 row_tokens (Some ts) vs close = ts ++ (vs ++ close ∷ [])
 
--- ---- whole statements
+-- ---- whole statements, each with all that is wrong with it
 
--- The tokens are a SELECT with these parts, and its fault is the least of all that is wrong with them.
-abbrev pub TellsSelect : Head → List ℕ → List Token → Checked Statement → Type 0
-TellsSelect head line tokens x =
-    (items : Chosen) × (t : Token) × (cond : Checked Condition) × (level : Option Isolation) × (x ≡ selected head line items t cond level) × StandIn (item_tokens items) tokens
-    × IsLeastOf x.fault (every_selected (table_names head line t) items t cond.fault)
+abbrev pub select : Head → List ℕ → Lang (Checked Statement × List Fault)
+select head line = do
+  token k.Select
+  is ← items
+  token k.From
+  t ← token k.Name
+  cond ← filter (table_names head line t)
+  at ← level
+  pure (selected head line is t cond at, every_selected (table_names head line t) is t cond.fault)
 
--- likewise an INSERT
-abbrev pub TellsInsert : Head → List ℕ → List Token → Checked Statement → Type 0
-TellsInsert head line tokens x =
-    (t : Token) × (columns : Option (List Token)) × (vs : List Token) × (close : Token) × (x ≡ inserted head line t columns vs close) × StandIn (row_tokens columns vs close) tokens
-    × IsLeastOf x.fault (every_inserted (table_names head line t) t columns vs close)
+abbrev pub insert : Head → List ℕ → Lang (Checked Statement × List Fault)
+insert head line = do
+  token k.Insert
+  token k.Into
+  t ← token k.Name
+  cs ← optional column_list
+  token k.Values
+  token k.Open
+  vs ← separated listed.Literal
+  close ← token k.Close
+  pure (inserted head line t cs vs close, every_inserted (table_names head line t) t cs vs close)
 
--- likewise an UPDATE
-abbrev pub TellsUpdate : Head → List ℕ → List Token → Checked Statement → Type 0
-TellsUpdate head line tokens x =
-    (t : Token) × (targets : List Target) × (cond : Checked Condition) × (level : Option Isolation) × (x ≡ updated head line t targets cond level) × StandIn (assigned_tokens targets) tokens
-    × IsLeastOf x.fault (every_updated (table_names head line t) t targets cond.fault)
+abbrev pub update : Head → List ℕ → Lang (Checked Statement × List Fault)
+update head line = do
+  token k.Update
+  t ← token k.Name
+  token k.Set
+  targets ← assignments
+  cond ← filter (table_names head line t)
+  at ← level
+  pure (updated head line t targets cond at, every_updated (table_names head line t) t targets cond.fault)
 
--- likewise a DELETE
-abbrev pub TellsDelete : Head → List ℕ → List Token → Checked Statement → Type 0
-TellsDelete head line tokens x =
-    (t : Token) × (cond : Checked Condition) × (level : Option Isolation) × (x ≡ deleted head line t cond level) × IsLeastOf x.fault (each (table_fault (table_names head line t) t) ++ each cond.fault)
+abbrev pub delete : Head → List ℕ → Lang (Checked Statement × List Fault)
+delete head line = do
+  token k.Delete
+  token k.From
+  t ← token k.Name
+  cond ← filter (table_names head line t)
+  at ← level
+  pure (deleted head line t cond at, each (table_fault (table_names head line t) t) ++ each cond.fault)
 
--- one of these four, or another statement, with which one thing can be wrong at most
-abbrev pub Tells : Head → List ℕ → List Token → Checked Statement → Type 0
-Tells head line tokens x = TellsSelect head line tokens x ⊎ (TellsInsert head line tokens x ⊎ (TellsUpdate head line tokens x ⊎ (TellsDelete head line tokens x ⊎ short_statement head line tokens x)))
+-- with any other statement one thing can be wrong at most
+abbrev pub short : Head → List ℕ → Lang (Checked Statement × List Fault)
+short head line = short_statement head line >>= λ x. pure (x, each x.fault)
+
+-- the statements, each with all that is wrong with it; each statement has one such list
+abbrev pub faulty : Head → List ℕ → Lang (Checked Statement × List Fault)
+faulty head line = select head line <|> (insert head line <|> (update head line <|> (delete head line <|> short head line)))

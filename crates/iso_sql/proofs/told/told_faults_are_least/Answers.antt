@@ -4,7 +4,7 @@ use Rattle.iso_grammar.specs.Lex.{tokens}
 use Rattle.iso_sql.proofs.EveryLaws.{listed-least, stored-least}
 use Rattle.iso_sql.proofs.EverySets.{assigned-least}
 use Rattle.iso_sql.proofs.EveryStatements.{inserted-least, selected-least, updated-least}
-use Rattle.iso_sql.proofs.EveryTexts.{text-told}
+use Rattle.iso_sql.proofs.EveryTexts.{text-has, text-is, text-told}
 use Rattle.iso_sql.proofs.Firsts.{one-least}
 use Rattle.iso_sql.proofs.StandingLaws.{standing-rise, starts-rise}
 use Rattle.iso_sql.proofs.told.told_faults_are_least.Goals as goal
@@ -35,3 +35,9 @@ returns-clause-text c = text-told
 
 pub returns-clause-one : goal.returns-clause-one
 returns-clause-one c = one-least
+
+pub returns-clause-every_text : goal.returns-clause-every_text
+returns-clause-every_text c = text-has
+
+pub returns-clause-no_other : goal.returns-clause-no_other
+returns-clause-no_other c = text-is
