@@ -11,3 +11,9 @@ pub mod SoundConditions
 pub mod SoundRows
 pub mod SoundSets
 pub mod SoundStatements
+pub mod Firsts
+pub mod EveryLaws
+pub mod StandingLaws
+pub mod EverySets
+pub mod EveryStatements
+pub mod EveryTexts

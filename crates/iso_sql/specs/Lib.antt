@@ -2,6 +2,7 @@ pub mod Sound
 pub mod Names
 pub mod Rows
 pub mod Actions
+pub mod Every
 pub mod Conditions
 pub mod ConditionReading
 pub mod Statements

@@ -13,6 +13,7 @@ mod rows;
 mod scope;
 mod short;
 mod statement;
+mod told;
 
 pub use fault::SqlFault;
 pub use read::{exactly_one_answer, is_built, read_statement};
@@ -20,6 +21,7 @@ pub use reader::take_statement;
 pub use rows::{placed_row, stored_fault, stored_row, stored_value, stores};
 pub use scope::{Scope, gives, name_of, scope_of, table_of, table_place};
 pub use statement::{Assignment, Condition, Expr, Items2, Op, Sets, Statement};
+pub use told::told_faults_are_least;
 
 #[cfg(test)]
 mod tests;
