@@ -1,7 +1,7 @@
 #!/bin/sh
 # Runs the program on each script of examples/, and compares what it writes with the transcript beside it. The status is 2 where that
-# refuses the script, else 0. It prints a line only where something is wrong. The proved program is taken where it is built here (as
-# bin/db2iso builds it); else 'rt try' runs the same sources, some twenty seconds for each script.
+# refuses the script, else 0. It prints a line only where something is wrong. The proved program is taken where it is built here, as
+# 'rt ci' and bin/db2iso leave it; else 'rt try' runs the same sources, some twenty seconds for each script.
 top=$(CDPATH= cd -- "$(dirname -- "$0")/.." && pwd) || exit 1
 program=$top/crates/db2iso/out/db2iso
 run() {
