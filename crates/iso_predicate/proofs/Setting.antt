@@ -103,14 +103,14 @@ fault_there : (columns : List Column) (row : List Value) (a : Assignment) (colum
 fault_there columns row a column is = rw is refl
 
 -- an assignment without a fault leaves the rest for the row with its value
-pub set_all_step : (columns : List Column) (sets : List Assignment) (old row : List Value) (i : ℕ) (a : Assignment) (column : Column) (v : Value)
+pub set_all_step : (columns : List Column) (sets : List Assignment) (old values : List Value) (i : ℕ) (a : Assignment) (column : Column) (v : Value)
     → i < length sets → a ≡ slice_index_or sets i a → slice_get columns a.column ≡ Some column
     → fault_in column (evaluated old a.expr) ≡ None → v ≡ evaluated old a.expr
-    → set_all columns (drop (i + 1) sets) old (slice_set row a.column v) ≡ set_all columns (drop i sets) old row
-set_all_step columns sets old row i a column v lt is there none value =
+    → set_all columns (drop (i + 1) sets) old (slice_set values a.column v) ≡ set_all columns (drop i sets) old values
+set_all_step columns sets old values i a column v lt is there none value =
     let parts = split sets i a lt is in
     let fault = fault_there columns old a column there in
-    let written = first_written old a (drop (i + 1) sets) row 0 a.column (omega arith) in
+    let written = first_written old a (drop (i + 1) sets) values 0 a.column (omega arith) in
     rw (parts, fault, none, written, value) refl
 
 -- the first assignment with a fault gives it
@@ -123,11 +123,11 @@ set_all_fault columns sets old row i a column fault lt is there some =
     rw (parts, same, some) refl
 
 -- no assignment is left
-pub set_all_done : (columns : List Column) (sets : List Assignment) (old row : List Value) (i : ℕ) → length sets ≤ i
-    → set_all columns (drop i sets) old row ≡ Ok row
-set_all_done columns sets old row i le =
+pub set_all_done : (columns : List Column) (sets : List Assignment) (old values : List Value) (i : ℕ) → length sets ≤ i
+    → set_all columns (drop i sets) old values ≡ Ok values
+set_all_done columns sets old values i le =
     let none : drop i sets ≡ [] = drop_all i sets le in
-    rw (none, none_left old row 0) refl
+    rw (none, none_left old values 0) refl
 
 -- an assignment that answers with a fault is the first with one
 pub set_all_answers : (columns : List Column) (sets : List Assignment) (old row : List Value) (i : ℕ) (a : Assignment) (column : Column)
