@@ -114,3 +114,11 @@ IsScript bytes script = (length bytes ≤ 1048576) × reads bytes script
 abbrev pub IsRefusal : ℕ → LineCause → ℕ → List Entry → Option (List ℕ) → Option (List ℕ) → Type 0
 IsRefusal n why status history old new =
     ((status ≡ 2) × (history ≡ []) × AppendsPart old new (refusal_at n why)) ⊎ ((status ≡ 5) × (history ≡ []) × Appends old new [])
+
+-- all of the text is written, or the sink has failed
+abbrev pub IsWritten : Type 0 → Option (List ℕ) → Option (List ℕ) → List ℕ → Type 0
+IsWritten failed old new text = Appends old new text ⊎ failed
+
+-- the text that refuses the bytes is written whole, or the sink has failed
+abbrev pub TellsRefusal : List ℕ → Type 0 → Option (List ℕ) → Option (List ℕ) → Type 0
+TellsRefusal bytes failed old new = (text : List ℕ) × RefusedWith bytes text × IsWritten failed old new text

@@ -5,7 +5,7 @@ ghost use Rattle.iso_conduct.specs.Legal.{IsFinished};
 ghost use Rattle.iso_history.specs.Makers.{by_dispatcher};
 ghost use Rattle.iso_history.specs.declared.entry.Act.TheVariants.{Finish as Ends};
 ghost use Rattle.iso_engine.specs.Job as spec;
-ghost use Rattle.iso_engine.specs.Job.{IsAnswered, IsComplete, IsRefusal, IsRow, IsScript, IsTold, refusal_at, texts, usage};
+ghost use Rattle.iso_engine.specs.Job.{IsAnswered, IsComplete, IsRefusal, IsRow, IsScript, IsTold, TellsRefusal, IsWritten, refusal_at, texts, usage};
 ghost use Rattle.iso_io.specs.Moves.{AppendsPart, HasRisen};
 ghost use Rattle.iso_script.specs.Built.{IsBuilt};
 ghost use Rattle.iso_script.specs.Numbered.{rises_above};
@@ -144,7 +144,8 @@ fn run_script<K: Sink>(alloc: Global, script: &Script, sink: &mut K) -> Report
 
 /// Refuses a script at its first bad line.
 fn refuse<K: Sink>(alloc: Global, line: u32, cause: LineCause, sink: &mut K) -> Report
-    ensures { IsRefusal line cause result.status result.history.items (K.held sink.old) (K.held sink.new) }
+    ensures refusal { IsRefusal line cause result.status result.history.items (K.held sink.old) (K.held sink.new) }
+    ensures whole { result.status ≡ 2 → IsWritten (HasRisen (K.faults sink.old) (K.faults sink.new)) (K.held sink.old) (K.held sink.new) (refusal_at line cause) }
 {
     match refusal(alloc, line, cause) {
         Ok(text) => {
@@ -161,6 +162,7 @@ fn run_bytes<K: Sink>(alloc: Global, bytes: &[u8], sink: &mut K) -> Report
     ensures answered { IsAnswered bytes.now result.status result.history.items (K.held sink.old) (K.held sink.new) }
     ensures read { result.status ≡ 3 → ⊥ }
     ensures fault { result.status ≡ 4 → HasRisen (K.faults sink.old) (K.faults sink.new) }
+    ensures refusal { result.status ≡ 2 → TellsRefusal bytes.now (HasRisen (K.faults sink.old) (K.faults sink.new)) (K.held sink.old) (K.held sink.new) }
 {
     match Script::read(alloc, bytes) {
         Ok(script) => run_script(alloc, &script, sink),
@@ -186,6 +188,9 @@ pub fn db2iso<R: Threads + Wait + Sync, S: Source, K: Sink, G: Gate + Sync>(
 ) -> Report
     ensures usage { (result.status ≡ 1) ↔ ¬ IsRow (texts words.now) }
     ensures usage_text { result.status ≡ 1 → (result.history.items ≡ []) × AppendsPart (K.held sink.old) (K.held sink.new) usage }
+    ensures usage_whole { result.status ≡ 1 → IsWritten (HasRisen (K.faults sink.old) (K.faults sink.new)) (K.held sink.old) (K.held sink.new) usage }
+    ensures refusal { result.status ≡ 2 → (bytes : List ℕ) × Consumes (S.left source.old) (S.left source.new) bytes
+        × TellsRefusal bytes (HasRisen (K.faults sink.old) (K.faults sink.new)) (K.held sink.old) (K.held sink.new) }
     ensures source_fault { result.status ≡ 3 → HasRisen (S.faults source.old) (S.faults source.new) }
     ensures sink_fault { result.status ≡ 4 → HasRisen (K.faults sink.old) (K.faults sink.new) }
     ensures outcome { IsRow (texts words.now) → (bytes : List ℕ) × Consumes (S.left source.old) (S.left source.new) bytes
