@@ -11,13 +11,13 @@ use Rattle.iso_types.specs.declared.head.Head.{Head}
 use Rattle.iso_types.specs.declared.value.Conn.{Conn}
 
 point_from-snoc : (head : Head) (lines : List Line) (w : World) (c : Conn) (o : Option Point) (es : List Entry) (e : Entry)
-    → point_from head lines w c o (es ++ e ∷ []) ≡ point_after lines (world_from head w es) c (point_from head lines w c o es) e
+    → point_from head lines w c o (es ++ e ∷ []) ≡ point_after head lines (world_from head w es) c (point_from head lines w c o es) e
 unfolding point_from world_from
 point_from-snoc head lines w c o [] e = refl
-point_from-snoc head lines w c o (x ∷ xs) e = point_from-snoc head lines (after head w x) c (point_after lines w c o x) xs e
+point_from-snoc head lines w c o (x ∷ xs) e = point_from-snoc head lines (after head w x) c (point_after head lines w c o x) xs e
 
 pub point-snoc : (head : Head) (lines : List Line) (c : Conn) (es : List Entry) (e : Entry)
-    → point head lines (es ++ e ∷ []) c ≡ point_after lines (world head es) c (point head lines es c) e
+    → point head lines (es ++ e ∷ []) c ≡ point_after head lines (world head es) c (point head lines es c) e
 unfolding point world
 point-snoc head lines c es e = point_from-snoc head lines (start head) c None es e
 
@@ -27,7 +27,7 @@ ConductFrom-snoc : (head : Head) (lines : List Line) (w : World) (c : Conn) (o :
 unfolding point_from world_from ConductFrom
 ConductFrom-snoc head lines w c o [] e g d = (d, tt)
 ConductFrom-snoc head lines w c o (x ∷ xs) e g d =
-    (g.0, ConductFrom-snoc head lines (after head w x) c (point_after lines w c o x) xs e g.1 d)
+    (g.0, ConductFrom-snoc head lines (after head w x) c (point_after head lines w c o x) xs e g.1 d)
 
 pub Conduct-snoc : (head : Head) (lines : List Line) (c : Conn) (es : List Entry) (e : Entry)
     → Conduct head lines es c → Does head lines (world head es) c (point head lines es c) e → Conduct head lines (es ++ e ∷ []) c

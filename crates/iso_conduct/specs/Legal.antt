@@ -1,7 +1,8 @@
--- The legal histories of a script.
+-- The legal histories of a script, and what is guarded in them.
 use Rattle.std.specs.Prelude.{◌≡◌, List, [], ◌∷◌, ◌++◌, IsTrue}
 use Rattle.iso_conduct.specs.Conduct.{Conduct}
 use Rattle.iso_conduct.specs.Pacing.{Paced}
+use Rattle.iso_history.specs.Guards.{HoldsGuarded, RangesGuarded, ReadsGuarded, RowsGuarded, TablesGuarded}
 use Rattle.iso_history.specs.Legal.{Ground}
 use Rattle.iso_history.specs.Makers.{by_dispatcher}
 use Rattle.iso_history.specs.declared.entry.Act.TheVariants.{Finish}
@@ -15,6 +16,15 @@ pub record IsLegal (script : Script) (es : List Entry) : Type 0 where
   pub ground : Ground script.head es
   pub conduct : (c : Conn) → IsTrue (is_conn script.head c) → Conduct script.head script.lines es c
   pub paced : Paced script.head script.lines es
+
+-- held locks go together; a Current look shows the settled row; a row that was looked at to stay, a table under an RR scan and
+-- the part of a range that an RR scan has passed are changed by no other until the unit ends
+pub record AreGuarded (script : Script) (es : List Entry) : Type 0 where
+  pub holds : HoldsGuarded script.head es
+  pub reads : ReadsGuarded script.head es
+  pub rows : RowsGuarded script.head es
+  pub tables : TablesGuarded script.head es
+  pub ranges : RangesGuarded script.head es
 
 -- the history ends with Finish
 abbrev pub IsFinished : List Entry → Type 0

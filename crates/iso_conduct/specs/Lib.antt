@@ -1,5 +1,11 @@
+pub mod Parts
 pub mod Points
+pub mod Courses
+pub mod Starts
+pub mod Answers
+pub mod Outcomes
 pub mod Conduct
 pub mod Pacing
+pub mod Schedule
 pub mod Legal
 pub mod Whole

@@ -1,30 +1,83 @@
--- In which order the dispatcher takes the body lines.
-use Rattle.std.specs.Prelude.{◌≡◌, ◌||◌, List, [], ◌∷◌, IsTrue, IsSome, Some, ℕ}
-use Rattle.iso_conduct.specs.Points.{statement_in}
+-- In which order the dispatcher takes the body lines, and when it purges, closes and stops.
+use Rattle.std.specs.Option.{option_map_or}
+use Rattle.std.specs.Prelude.{◌≡◌, Bool, true, false, ◌||◌, List, [], ◌∷◌, IsTrue, Option, Some, None, if◌then◌else◌, is_some, ℕ}
 use Rattle.iso_history.specs.After.{after, start}
-use Rattle.iso_history.specs.Legal.{are_resting}
+use Rattle.iso_history.specs.Entries.{least_purgeable}
+use Rattle.iso_history.specs.Makers.{by_dispatcher}
+use Rattle.iso_history.specs.Phases.{is_phase, phase}
+use Rattle.iso_history.specs.Quiet.{is_busy, is_quiet}
+use Rattle.iso_history.specs.Stops.{is_full}
 use Rattle.iso_history.specs.World.{World}
 use Rattle.iso_history.specs.declared.entry.Act.{Act}
-use Rattle.iso_history.specs.declared.entry.Act.TheVariants.{Close, Dispatch, Finish}
+use Rattle.iso_history.specs.declared.entry.Act.TheVariants.{Busy, Close, Dispatch, Expire, Finish, Purge, Snapshot, Stopped, Victim}
+use Rattle.iso_history.specs.declared.entry.Cause.{Cause}
+use Rattle.iso_history.specs.declared.entry.Cause.TheVariants.{History, Memory}
 use Rattle.iso_history.specs.declared.entry.Entry.{Entry}
 use Rattle.iso_history.specs.declared.entry.Who.{Who}
 use Rattle.iso_history.specs.declared.entry.Who.TheVariants.{Agent, Dispatcher}
+use Rattle.iso_queue.specs.Snapshots.{snapshot}
 use Rattle.iso_script.specs.declared.script.Line.{Line}
+use Rattle.iso_script.specs.declared.script.What.{What}
+use Rattle.iso_types.specs.declared.desk.Phase.{Phase}
+use Rattle.iso_types.specs.declared.desk.Phase.TheVariants.{Idle}
 use Rattle.iso_types.specs.declared.head.Head.{Head}
 use Rattle.iso_types.specs.declared.value.Conn.{Conn}
+use Rattle.iso_types.specs.declared.value.IndexId.{IndexId}
+use Rattle.iso_types.specs.declared.value.Rid.{Rid}
+use Rattle.iso_types.specs.declared.value.Value.{Value}
 
--- the first line that is left is this statement line of this connection; without `&` it is taken only where all rest
-abbrev pub TakesFirst : Head → World → List Line → ℕ → Conn → Type 0
-TakesFirst head w [] line c = ⊥
-TakesFirst head w (l ∷ ls) line c =
-    (l.number ≡ line) × (l.conn ≡ Some c) × IsSome (statement_in l.what) × IsTrue (l.free || are_resting head w)
+-- a statement line is dispatched to an idle connection, and answered Busy where it waits with an edge and lies on no cycle
+abbrev pub statement_step : Head → World → ℕ → Conn → Option Act
+statement_step head w n c =
+    if is_phase (phase w c) Idle then Some (Dispatch n c) else if is_busy head w c then Some (Busy n c) else None
 
--- a line is taken in its order; connections are closed, and the history ends, only where no line is left
+-- the entry that takes a line, by what it asks for and its connection
+abbrev pub step_of : Head → World → ℕ → What → Option Conn → Option Act
+step_of head w n (What.Statement s) (Some c) = statement_step head w n c
+step_of head w n What.Expire (Some c) = Some (Expire n c (is_phase (phase w c) Phase.Waiting))
+step_of head w n What.Snapshot conn = Some (Snapshot n (snapshot head w.holds w.waits))
+step_of head w n what None = None
+
+-- a line without `&` is taken only in quiet
+abbrev pub line_step : Head → World → Line → Option Act
+line_step head w l = if l.free || is_quiet head w then step_of head w l.number l.what l.conn else None
+
+-- the purge of a pair
+abbrev pub purge_of : IndexId × (Value × Rid) → Act
+purge_of p = Purge p.0 p.1.0 p.1.1
+
+-- a line is taken only where no pair is purgeable, or where the dispatcher's last entry is a Purge; else the pair is purged
+abbrev pub purge_or_line : Head → World → Line → Bool → Option (IndexId × (Value × Rid)) → Option Act
+purge_or_line head w l false (Some pair) = Some (purge_of pair)
+purge_or_line head w l purged pair = line_step head w l
+
+-- the step by which the dispatcher takes the first line that is left, or purges; none after a Stopped
+abbrev pub taking : Head → World → List Line → Option Act
+taking head w [] = None
+taking head w (l ∷ ls) = if w.pace.stopped then None else purge_or_line head w l w.pace.purged (least_purgeable head w)
+
+-- no line is left
+abbrev pub is_bare : List Line → Bool
+is_bare [] = true
+is_bare (l ∷ ls) = false
+
+-- no line is left, or a Stopped stands
+abbrev pub is_over : World → List Line → Bool
+is_over w ls = is_bare ls || w.pace.stopped
+
+-- the dispatcher stops in place of a step that takes a line or purges: for memory at any, for the history at a full one
+abbrev pub MayHalt : Head → World → Option Act → Cause → Type 0
+MayHalt head w step Memory = IsTrue (is_some step)
+MayHalt head w step History = IsTrue (option_map_or (λ a. is_full head w (by_dispatcher a)) step false)
+MayHalt head w step Cause.Table = ⊥
+
+-- lines are taken in their order; connections are closed, and the history ends, only where no line is left or a Stopped stands
 abbrev pub MayPace : Head → World → List Line → Act → Type 0
-MayPace head w ls (Dispatch line c) = TakesFirst head w ls line c
-MayPace head w ls (Close c) = ls ≡ []
-MayPace head w ls Finish = ls ≡ []
-MayPace head w ls _ = Unit {0}
+MayPace head w ls (Victim members) = Unit {0}
+MayPace head w ls (Close c) = IsTrue (is_over w ls)
+MayPace head w ls Finish = IsTrue (is_over w ls)
+MayPace head w ls (Stopped cause) = MayHalt head w (taking head w ls) cause
+MayPace head w ls a = taking head w ls ≡ Some a
 
 -- the agents' entries take no line
 abbrev pub Paces : Head → World → List Line → Who → Act → Type 0
@@ -39,6 +92,9 @@ lines_behind (l ∷ ls) = ls
 -- the lines that are left after an act of the dispatcher
 abbrev pub lines_after_act : List Line → Act → List Line
 lines_after_act ls (Dispatch line c) = lines_behind ls
+lines_after_act ls (Busy line c) = lines_behind ls
+lines_after_act ls (Expire line c ended) = lines_behind ls
+lines_after_act ls (Snapshot line locks) = lines_behind ls
 lines_after_act ls _ = ls
 
 -- the lines that are left after an entry

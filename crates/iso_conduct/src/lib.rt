@@ -2,8 +2,16 @@
 //! lines, and so which histories are legal. The definitions stand in specs/; here are laws of them.
 #![tactic(auto)]
 
+mod copies;
+mod course;
 mod laws;
+mod moves;
+mod start;
+mod task;
 
 pub use laws::{
-    finished_is_whole, finished_takes_all_lines, one_entry_is_next, others_leave_the_point,
+    finished_is_whole, finished_takes_all_lines, legal_histories_are_guarded, one_entry_is_next,
+    others_leave_the_point,
 };
+pub use moves::{Move, Told};
+pub use task::Task;

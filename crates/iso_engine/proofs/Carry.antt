@@ -1,7 +1,7 @@
 -- What holds of a head and a history is carried over a step: to the longer history, or to the same one after want of memory.
 use Rattle.std.proofs.Common.{◌≡◌, List, sym, subst, Result, Ok, Err, OnOk, OnErr}
 use Rattle.iso_history.specs.declared.entry.Entry.{Entry}
-use Rattle.iso_state.specs.Stands.{Content}
+use Rattle.iso_first_state.specs.Stands.{Content}
 use Rattle.iso_types.specs.declared.head.Head.{Head}
 
 -- from the head and the history that a step states to those that stand after it

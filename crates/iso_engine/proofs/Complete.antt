@@ -2,7 +2,7 @@
 use Rattle.std.proofs.Common.{◌≡◌, ℕ, ◌≤◌, ◌+◌, ◌⊎◌, inl, inr, List, [], ◌++◌, length, sym, ap, ◌∙◌, subst, Option, Some, None, length-append, arith}
 use Rattle.std.specs.Io.KnownBytes.{Consumes, IsAtEnd}
 use Rattle.std.proofs.lemmas.List.{append-nil}
-use Rattle.iso_conduct.proofs.Wholes.{whole}
+use Rattle.iso_first_conduct.proofs.Wholes.{whole}
 use Rattle.iso_engine.specs.Job.{IsAnswered, IsComplete, IsOutcome, IsScript, IsTold}
 use Rattle.iso_history.specs.declared.entry.Entry.{Entry}
 use Rattle.iso_script.proofs.Exact.{not_both, one_script}

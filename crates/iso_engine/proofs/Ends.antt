@@ -1,16 +1,17 @@
 -- The entries that end a statement, and those that end the run.
 use Rattle.std.proofs.Common.{◌≡◌, ℕ, Bool, true, false, List, [], ◌∷◌, ◌++◌, refl, sym, subst, ap, Option, Some, None, is_some, IsTrue, length, arith, ℤ, ◌≤◌}
 use Rattle.std.proofs.lemmas.Bool.{ltb-true}
-use Rattle.iso_conduct.specs.Conduct.{Conduct}
-use Rattle.iso_conduct.specs.Legal.{IsLegal}
-use Rattle.iso_conduct.specs.Points.{reply_of, reply_with, select_code, select_rows}
-use Rattle.iso_conduct.specs.Points.Part.{Answer, Settles}
+use Rattle.iso_first_conduct.specs.Conduct.{Conduct}
+use Rattle.iso_first_conduct.specs.Legal.{IsLegal}
+use Rattle.iso_first_conduct.specs.Points.{reply_of, reply_with, select_code, select_rows}
+use Rattle.iso_first_conduct.specs.Points.Part.{Answer, Settles}
 use Rattle.iso_engine.proofs.Ways.{idle-snoc, rests, shuts, way-snoc}
 use Rattle.iso_engine.specs.UnderWay.{IsClosing, IsIdle, IsOver, IsRunning, IsSoFar, IsUnderWay, ends_unit, first_conn}
 use mir.Val.{of_z, to_z}
 use mir.Syntax.{w32}
-use Rattle.iso_conduct.proofs.Snoc.{Conduct-snoc, Paced-snoc}
-use Rattle.iso_history.proofs.Snoc.{Ground-snoc, world-snoc}
+use Rattle.iso_first_conduct.proofs.Snoc.{Conduct-snoc, Paced-snoc}
+use Rattle.iso_history.proofs.Snoc.{world-snoc}
+use Rattle.iso_first_state.proofs.Snoc.{Ground-snoc}
 use Rattle.iso_history.specs.After.{world}
 use Rattle.iso_history.specs.Makers.{by_agent, by_dispatcher}
 use Rattle.iso_history.specs.Phases.{phase_of}

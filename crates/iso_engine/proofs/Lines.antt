@@ -3,8 +3,8 @@ use Rattle.std.proofs.Common.{◌≡◌, ℕ, ◌<◌, ◌+◌, ◌&&◌, Bool, 
 use Rattle.std.specs.List.{list_all}
 use Rattle.std.proofs.lemmas.Bool.{eq-eqb, eqb-true, ltb-true}
 use Rattle.std.proofs.lemmas.List.Folds.{list_all_at}
-use Rattle.iso_conduct.specs.Points.{line_at, statement_in}
-use Rattle.iso_conduct.specs.Points.{start_point}
+use Rattle.iso_first_conduct.specs.Points.{line_at, statement_in}
+use Rattle.iso_first_conduct.specs.Points.{start_point}
 use Rattle.iso_engine.proofs.Turns.{IsNextLine, dispatched}
 use Rattle.iso_history.specs.Makers.{by_dispatcher}
 use Rattle.iso_history.specs.declared.entry.Act.TheVariants.{Dispatch}

@@ -8,7 +8,7 @@ use Rattle.iso_engine.specs.UnderWay.{IsRunning, IsUnderWay, first_conn}
 use Rattle.iso_history.proofs.Snoc.{world-snoc}
 use Rattle.iso_history.specs.After.{world}
 use Rattle.iso_history.specs.Makers.{by_agent}
-use Rattle.iso_conduct.specs.Points.{looked}
+use Rattle.iso_first_conduct.specs.Points.{looked}
 use Rattle.iso_history.specs.Versions.{present, slots, versions}
 use Rattle.iso_history.specs.declared.entry.Act.TheVariants.{Look}
 use Rattle.iso_history.specs.declared.entry.Entry.{Entry}
@@ -16,8 +16,8 @@ use Rattle.iso_history.specs.declared.entry.Got.{Got}
 use Rattle.iso_history.specs.declared.entry.Want.TheVariants.{Dirty}
 use Rattle.iso_script.specs.declared.script.Line.{Line}
 use Rattle.iso_sql.specs.declared.statement.Statement.{Statement}
-use Rattle.iso_state.specs.Looks.{look_act, looked_of}
-use Rattle.iso_state.specs.declared.answers.Looked.{Looked}
+use Rattle.iso_first_state.specs.Looks.{look_act, looked_of}
+use Rattle.iso_first_state.specs.declared.answers.Looked.{Looked}
 use Rattle.iso_types.specs.Head.{is_table}
 use Rattle.iso_types.specs.declared.head.Head.{Head}
 use Rattle.iso_types.specs.declared.value.Rid.{Rid}

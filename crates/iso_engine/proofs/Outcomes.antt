@@ -1,7 +1,7 @@
 -- What the answers of the program come to.
 use Rattle.std.proofs.Common.{rules, ◌≡◌, ℕ, ◌≤◌, ◌⊎◌, inl, inr, List, [], length, refl, sym, subst, Option, arith}
 use Rattle.std.specs.Io.KnownBytes.{Appends}
-use Rattle.iso_conduct.specs.Legal.{IsLegal}
+use Rattle.iso_first_conduct.specs.Legal.{IsLegal}
 use Rattle.iso_engine.proofs.Ends.{legal-of, so-far}
 use Rattle.iso_engine.proofs.Start.{starts}
 use Rattle.iso_engine.specs.Job.{IsAnswered, IsExact, IsHeadline, IsOutcome, IsRefusal, IsTold, refusal_at, too_long}

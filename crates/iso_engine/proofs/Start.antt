@@ -1,10 +1,10 @@
 -- Where a run begins.
 use Rattle.std.proofs.Common.{◌≡◌, false, List, [], refl}
-use Rattle.iso_conduct.specs.Conduct.{Conduct, ConductFrom, point, point_from}
-use Rattle.iso_conduct.specs.Pacing.{Paced, PacedFrom, lines_from, lines_left}
+use Rattle.iso_first_conduct.specs.Conduct.{Conduct, ConductFrom, point, point_from}
+use Rattle.iso_first_conduct.specs.Pacing.{Paced, PacedFrom, lines_from, lines_left}
 use Rattle.iso_engine.specs.UnderWay.{IsIdle}
 use Rattle.iso_history.specs.After.{world, world_from}
-use Rattle.iso_history.specs.Legal.{Ground, GroundFrom}
+use Rattle.iso_first_state.specs.Legal.{Ground, GroundFrom}
 use Rattle.iso_script.specs.Built.{is_open_behind}
 use Rattle.iso_script.specs.declared.script.Line.{Line}
 use Rattle.iso_types.specs.declared.head.Head.{Head}

@@ -1,12 +1,12 @@
 -- Each kind of entry on a run that is under way.
 use Rattle.std.proofs.Common.{◌≡◌, ℕ, Bool, true, false, List, [], ◌∷◌, ◌++◌, refl, ap, Option, Some, None, ◌||◌, length, nat_lt}
 use Rattle.std.specs.Option.{option_map_or}
-use Rattle.iso_conduct.specs.Points.{Part, Point, line_at, looked, start_point, statement_in}
-use Rattle.iso_conduct.specs.Points.Part.{NewRow, Scan}
+use Rattle.iso_first_conduct.specs.Points.{Part, Point, line_at, looked, start_point, statement_in}
+use Rattle.iso_first_conduct.specs.Points.Part.{NewRow, Scan}
 use Rattle.iso_engine.proofs.Ways.{opens, rests, running-snoc, way-snoc}
 use Rattle.iso_engine.specs.UnderWay.{IsIdle, IsRunning, ends_unit, first_conn}
 use Rattle.iso_history.specs.After.{world}
-use Rattle.iso_history.specs.Legal.{are_resting}
+use Rattle.iso_first_state.specs.Legal.{are_resting}
 use Rattle.iso_history.specs.Looks.{shown}
 use Rattle.iso_history.specs.Makers.{by_agent, by_dispatcher}
 use Rattle.iso_history.specs.Versions.{next_rid, slots}

@@ -1,13 +1,14 @@
 -- One more entry on a run that is under way.
 use Rattle.std.proofs.Common.{◌≡◌, Bool, true, false, List, [], ◌∷◌, ◌++◌, refl, sym, subst, ap, ◌∙◌, length}
-use Rattle.iso_conduct.proofs.Snoc.{Conduct-snoc, Paced-snoc, lines_left-snoc, point-snoc}
-use Rattle.iso_conduct.specs.Conduct.{Does, point, point_after}
-use Rattle.iso_conduct.specs.Pacing.{Paces, lines_after}
-use Rattle.iso_conduct.specs.Points.{Point}
+use Rattle.iso_first_conduct.proofs.Snoc.{Conduct-snoc, Paced-snoc, lines_left-snoc, point-snoc}
+use Rattle.iso_first_conduct.specs.Conduct.{Does, point, point_after}
+use Rattle.iso_first_conduct.specs.Pacing.{Paces, lines_after}
+use Rattle.iso_first_conduct.specs.Points.{Point}
 use Rattle.iso_engine.specs.UnderWay.{IsIdle, IsRunning, IsUnderWay, RestsAt, RunsAt, first_conn}
-use Rattle.iso_history.proofs.Snoc.{Ground-snoc, world-snoc}
+use Rattle.iso_history.proofs.Snoc.{world-snoc}
+use Rattle.iso_first_state.proofs.Snoc.{Ground-snoc}
 use Rattle.iso_history.specs.After.{after, world}
-use Rattle.iso_history.specs.Legal.{Allowed, are_resting}
+use Rattle.iso_first_state.specs.Legal.{Allowed, are_resting}
 use Rattle.iso_history.specs.Paces.{pace_by}
 use Rattle.iso_history.specs.Phases.{phase, phase_of}
 use Rattle.iso_history.specs.World.{World}

@@ -3,8 +3,8 @@ use Rattle.std.specs.Prelude.{◌≡◌, ℕ, ◌≤◌, ◌⊎◌, List, [], �
 use Rattle.std.specs.Fmt.{decimal}
 use Rattle.std.specs.Global.{Global}
 use Rattle.std.specs.Io.KnownBytes.{Appends}
-use Rattle.iso_conduct.specs.Legal.{IsFinished, IsLegal}
-use Rattle.iso_conduct.specs.Whole.{IsWhole}
+use Rattle.iso_first_conduct.specs.Legal.{IsFinished, IsLegal}
+use Rattle.iso_first_conduct.specs.Whole.{IsWhole}
 use Rattle.iso_history.specs.declared.entry.Entry.{Entry}
 use Rattle.iso_io.specs.Moves.{AppendsPart}
 use Rattle.iso_render.specs.Transcript.{transcript}

@@ -1,7 +1,7 @@
 -- What one look of a scan leaves, and where an insertion stands.
 use Rattle.std.specs.Prelude.{ℕ, ◌+◌, ◌≤◌, List, [], ◌∷◌, None, Some}
-use Rattle.iso_conduct.specs.Points.{Point, looked}
-use Rattle.iso_conduct.specs.Points.Part.{Answer, Scan}
+use Rattle.iso_first_conduct.specs.Points.{Point, looked}
+use Rattle.iso_first_conduct.specs.Points.Part.{Answer, Scan}
 use Rattle.iso_engine.specs.UnderWay.{IsRunning}
 use Rattle.iso_engine.specs.declared.query.Query.{Query}
 use Rattle.iso_history.specs.After.{world}
@@ -10,8 +10,8 @@ use Rattle.iso_history.specs.Writes.{minus}
 use Rattle.iso_history.specs.declared.entry.Entry.{Entry}
 use Rattle.iso_script.specs.declared.script.Line.{Line}
 use Rattle.iso_sql.specs.declared.statement.Statement.{Statement}
-use Rattle.iso_state.specs.declared.answers.Looked.{Looked}
-use Rattle.iso_state.specs.declared.answers.Looked.TheVariants.{EndOfTable, Shown}
+use Rattle.iso_first_state.specs.declared.answers.Looked.{Looked}
+use Rattle.iso_first_state.specs.declared.answers.Looked.TheVariants.{EndOfTable, Shown}
 use Rattle.iso_types.specs.declared.head.Head.{Head}
 use Rattle.iso_types.specs.declared.value.TableId.{TableId}
 use Rattle.iso_types.specs.declared.value.Value.{Value}

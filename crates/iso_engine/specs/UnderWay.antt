@@ -1,10 +1,10 @@
 -- Where a run on one thread stands between two entries, with one connection.
 use Rattle.std.specs.Prelude.{◌≡◌, Bool, true, false, not, List, [], Option, Some, None, is_some}
-use Rattle.iso_conduct.specs.Conduct.{Conduct, opened, point}
-use Rattle.iso_conduct.specs.Pacing.{Paced, lines_left}
-use Rattle.iso_conduct.specs.Points.{Point}
+use Rattle.iso_first_conduct.specs.Conduct.{Conduct, opened, point}
+use Rattle.iso_first_conduct.specs.Pacing.{Paced, lines_left}
+use Rattle.iso_first_conduct.specs.Points.{Point}
 use Rattle.iso_history.specs.After.{world}
-use Rattle.iso_history.specs.Legal.{Ground}
+use Rattle.iso_first_state.specs.Legal.{Ground}
 use Rattle.iso_history.specs.Phases.{phase}
 use Rattle.iso_history.specs.Quiet.{all_ended}
 use Rattle.iso_history.specs.Records.{left_of}

@@ -1,18 +1,18 @@
 ghost use Rattle.std.specs.Prelude.{◌≡◌, drop, true, false, OnOk};
-ghost use Rattle.iso_conduct.specs.Points.{start_point};
+ghost use Rattle.iso_first_conduct.specs.Points.{start_point};
 ghost use Rattle.iso_engine.specs.Runnable.{CanRun};
 ghost use Rattle.iso_engine.specs.Scans.{inserted_out, refused_out};
 ghost use Rattle.iso_engine.specs.UnderWay.{IsIdle, IsRunning, IsUnderWay};
 ghost use Rattle.iso_predicate.specs.Assigned.{has_null};
 ghost use Rattle.iso_sql.specs.Sound.{are_stored, columns_of};
 ghost use Rattle.iso_sql.specs.declared.statement.Statement.TheVariants.{Insert};
-ghost use Rattle.iso_state.specs.Stands.{StandsFor};
+ghost use Rattle.iso_first_state.specs.Stands.{StandsFor};
 ghost use Rattle.iso_types.specs.Head.{is_table};
 
 use crate::serial::FIRST;
+use iso_first_state::{Parts, Written, insert, refuse, reply};
 use iso_predicate::nulls;
 use iso_script::Line;
-use iso_state::{Parts, Written, insert, refuse, reply};
 use iso_types::{Head, Items, Memory, Row, TableId};
 use std::alloc::Global;
 

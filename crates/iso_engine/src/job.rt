@@ -1,7 +1,7 @@
 ghost use Rattle.std.specs.Prelude.{◌≡◌, ℕ, ◌≤◌, ◌⊎◌, Some, ◌↔◌, List, [], ◌∷◌, ◌++◌, string_bytes, length, true, IsTrue, IfOk, codes};
 ghost use Rattle.std.specs.Fmt.{decimal};
 ghost use Rattle.std.specs.Io.KnownBytes.{Appends, Consumes};
-ghost use Rattle.iso_conduct.specs.Legal.{IsFinished};
+ghost use Rattle.iso_first_conduct.specs.Legal.{IsFinished};
 ghost use Rattle.iso_history.specs.Makers.{by_dispatcher};
 ghost use Rattle.iso_history.specs.declared.entry.Act.TheVariants.{Finish as Ends};
 ghost use Rattle.iso_engine.specs.Job as spec;

@@ -1,5 +1,5 @@
 ghost use Rattle.std.specs.Prelude.{◌≡◌, ◌<◌, ◌≤◌, ◌+◌, ◌^◌, drop, length, true, IfOk, IsTrue, OnOk, ℕ};
-ghost use Rattle.iso_conduct.specs.Points.{kept_with, looked, start_point};
+ghost use Rattle.iso_first_conduct.specs.Points.{kept_with, looked, start_point};
 ghost use Rattle.iso_engine.specs.Runnable.{CanRun};
 ghost use Rattle.iso_engine.specs.Scans.{GoesOn, scanned_out, scanning, select_of};
 ghost use Rattle.iso_engine.specs.UnderWay.{IsIdle, IsRunning, IsUnderWay};
@@ -7,16 +7,16 @@ ghost use Rattle.iso_history.specs.After.{world};
 ghost use Rattle.iso_history.specs.Versions.{present, slots, versions};
 ghost use Rattle.iso_predicate.specs.Truth.{is_within};
 ghost use Rattle.iso_sql.specs.Sound.{columns_of, is_typed};
-ghost use Rattle.iso_state.specs.Stands.{StandsFor, content_of, world_of};
+ghost use Rattle.iso_first_state.specs.Stands.{StandsFor, content_of, world_of};
 ghost use Rattle.iso_types.specs.Head.{is_table};
 
 use crate::reply::{code_of, project, rows_of};
 use crate::serial::FIRST;
+use iso_first_state::{Looked, Parts, look, reply, row_at};
 use iso_history::Want;
 use iso_predicate::keep;
 use iso_script::Line;
 use iso_sql::{Condition, Items2};
-use iso_state::{Looked, Parts, look, reply, row_at};
 use iso_types::{Isolation, Items, Memory, Rid, Row, Rows, TableId};
 use std::alloc::Global;
 

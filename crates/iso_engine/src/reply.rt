@@ -1,5 +1,5 @@
 ghost use Rattle.std.specs.Prelude.{◌≡◌, ◌<◌, ◌^◌, IfOk, slice_index_or, map, length};
-ghost use Rattle.iso_conduct.specs.Points.{projected, select_code, select_rows};
+ghost use Rattle.iso_first_conduct.specs.Points.{projected, select_code, select_rows};
 ghost use Rattle.iso_types.specs.declared.value.Value.TheVariants.{Null};
 
 use iso_sql::Items2;

@@ -1,21 +1,21 @@
 ghost use Rattle.std.specs.List.{list_all};
 ghost use Rattle.std.specs.Prelude.{◌≡◌, ◌<◌, ◌≤◌, ◌+◌, drop, length, slice_index_or, true, [], Some, None, IfOk, OnOk};
-ghost use Rattle.iso_conduct.specs.Legal.{IsFinished, IsLegal};
-ghost use Rattle.iso_conduct.specs.Points.{start_point};
+ghost use Rattle.iso_first_conduct.specs.Legal.{IsFinished, IsLegal};
+ghost use Rattle.iso_first_conduct.specs.Points.{start_point};
 ghost use Rattle.iso_engine.specs.Runnable.{CanRun};
 ghost use Rattle.iso_engine.specs.UnderWay.{IsIdle, IsRunning, IsSoFar, IsUnderWay};
 ghost use Rattle.iso_script.specs.Built.{IsBuilt, is_built_line, is_built_what};
 ghost use Rattle.iso_script.specs.Numbered.{rises_above};
 ghost use Rattle.iso_script.specs.declared.script.What.{What as Asks};
-ghost use Rattle.iso_state.specs.Stands.{StandsFor};
+ghost use Rattle.iso_first_state.specs.Stands.{StandsFor};
 
 use crate::insertion::run_insertion;
 use crate::query::{Query, run_query};
 use crate::serial::{FIRST, finish_it, run_commit, run_end};
+use iso_first_state::{Parts, dispatch};
 use iso_history::History;
 use iso_script::{Line, Script, What};
 use iso_sql::Statement;
-use iso_state::{Parts, dispatch};
 use iso_types::Memory;
 use std::alloc::Global;
 

@@ -1,13 +1,13 @@
 ghost use Rattle.std.specs.Prelude.{◌≡◌, ◌<◌, ◌≤◌, ◌+◌, drop, length, true, [], IfOk, OnOk, ℕ};
-ghost use Rattle.iso_conduct.specs.Legal.{IsFinished};
-ghost use Rattle.iso_conduct.specs.Points.{start_point};
+ghost use Rattle.iso_first_conduct.specs.Legal.{IsFinished};
+ghost use Rattle.iso_first_conduct.specs.Points.{start_point};
 ghost use Rattle.iso_engine.specs.Runnable.{CanRun};
 ghost use Rattle.iso_engine.specs.UnderWay.{IsClosing, IsIdle, IsOver, IsRunning, IsSoFar, IsUnderWay};
 ghost use Rattle.iso_sql.specs.declared.statement.Statement.TheVariants.{Commit as Commits};
-ghost use Rattle.iso_state.specs.Stands.{StandsFor};
+ghost use Rattle.iso_first_state.specs.Stands.{StandsFor};
 
+use iso_first_state::{Parts, close, commit, ended, finish};
 use iso_script::Line;
-use iso_state::{Parts, close, commit, ended, finish};
 use iso_types::{Conn, Memory};
 
 /// The one connection of this stage.

@@ -3,11 +3,12 @@ use Rattle.std.specs.Prelude.{◌+◌, false, List, [], ◌∷◌, None}
 use Rattle.iso_history.specs.Entries.{entries_by, first_entries, pairing_of}
 use Rattle.iso_history.specs.Holds.{holds_by}
 use Rattle.iso_history.specs.Lasts.{due_by, last_by}
-use Rattle.iso_history.specs.Lines.{line_by, stage_of}
+use Rattle.iso_history.specs.Lines.{floor_by, line_by, stage_of}
 use Rattle.iso_history.specs.Marks.{marks_by}
+use Rattle.iso_history.specs.Changes.{changes_by}
 use Rattle.iso_history.specs.Paces.{pace_by}
 use Rattle.iso_history.specs.Phases.{closing_by, doom_by, doom_of, ended_by}
-use Rattle.iso_history.specs.Records.{records_by}
+use Rattle.iso_history.specs.Records.{count, records_by}
 use Rattle.iso_history.specs.Settings.{first_setting, setting_by}
 use Rattle.iso_history.specs.Units.{begun_by, turn_of, unit_by, unit_of_maker}
 use Rattle.iso_history.specs.Versions.{change_of, first_tables, tables_by}
@@ -24,12 +25,14 @@ after head w e = record {
   begun = begun_by w (turn_of e.who e.act);
   unit = unit_by w (turn_of e.who e.act);
   line = line_by w.line (stage_of e.who e.act);
+  floor = floor_by w.floor (stage_of e.who e.act) (count w);
   setting = setting_by w.setting e.who e.act;
   doom = doom_by w.doom (doom_of w e.who e.act);
   closing = closing_by w.closing e.who e.act;
   ended = ended_by w.ended e.who e.act;
   tables = tables_by w (unit_of_maker w e.who) (change_of e.act);
   records = records_by w (unit_of_maker w e.who) (change_of e.act);
+  changes = changes_by w (change_of e.act);
   entries = entries_by head w (pairing_of e.act);
   holds = holds_by head w e.who e.act;
   waits = waits_by w (joining_of w e.who e.act);
@@ -46,12 +49,14 @@ start head = record {
   begun = 0;
   unit = λ c. None;
   line = λ c. None;
+  floor = λ c. 0;
   setting = first_setting head;
   doom = λ c. None;
   closing = λ c. false;
   ended = λ c. false;
   tables = first_tables head;
   records = [];
+  changes = [];
   entries = first_entries head;
   holds = [];
   waits = [];

@@ -36,3 +36,9 @@ abbrev pub line_by : (Conn → Option ℕ) → Stage → Conn → Option ℕ
 line_by f Goes = f
 line_by f (Opens c line) = at_conn f c (Some line)
 line_by f (Shuts c) = at_conn f c None
+
+-- `count` at the Dispatch of each connection's last statement
+abbrev pub floor_by : (Conn → ℕ) → Stage → ℕ → Conn → ℕ
+floor_by f Goes count = f
+floor_by f (Opens c line) count = at_conn f c count
+floor_by f (Shuts c) count = f

@@ -1,7 +1,7 @@
 -- Phases.
 use Rattle.std.specs.List.{list_all}
 use Rattle.std.specs.Option.{option_map_or}
-use Rattle.std.specs.Prelude.{ℕ, Bool, true, false, ◌&&◌, ◌||◌, List, is_some, is_none, if◌then◌else◌, nat_le, ◌==◌, Some, None, find, Option}
+use Rattle.std.specs.Prelude.{ℕ, Bool, true, false, ◌&&◌, ◌||◌, List, is_some, is_none, nat_le, ◌==◌, Some, None, find, Option}
 use Rattle.iso_history.specs.Units.{unit_of}
 use Rattle.iso_history.specs.World.{World, at_conn}
 use Rattle.iso_history.specs.declared.entry.Act.{Act}

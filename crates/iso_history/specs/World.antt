@@ -3,6 +3,7 @@ use Rattle.std.specs.Prelude.{ℕ, Bool, List, if◌then◌else◌, Option}
 use Rattle.iso_modes.specs.declared.Mode.{Mode}
 use Rattle.iso_queue.specs.Locks.{Hold}
 use Rattle.iso_queue.specs.Queues.{Wait}
+use Rattle.iso_record.specs.declared.record.Change.{Change}
 use Rattle.iso_types.specs.Ids.{conn_eq}
 use Rattle.iso_types.specs.declared.head.Isolation.{Isolation}
 use Rattle.iso_types.specs.declared.value.Conn.{Conn}
@@ -53,8 +54,10 @@ pub record Pace : Type 0 where
 
 --     made, begun      the numbers of entries, and of units begun
 --     unit, line       of a connection: its open unit; the line of its open statement
+--     floor            `count` at the Dispatch of its last statement: a failed one is undone down to it
 --     doom             the reason for which it has to roll back
 --     tables           for each table its slots, for each slot its versions, newest first
+--     changes          of each record what it did, an update with the old values of the changed columns
 --     entries          for each index its pairs (key, rid), in order
 --     waits            the queues of all names in one list
 --     last, due        what is asked of a connection's last own entry; the Collapse that is due
@@ -63,12 +66,14 @@ pub record World : Type 0 where
   pub begun : ℕ
   pub unit : Conn → Option ℕ
   pub line : Conn → Option ℕ
+  pub floor : Conn → ℕ
   pub setting : Conn → Setting
   pub doom : Conn → Option ℕ
   pub closing : Conn → Bool
   pub ended : Conn → Bool
   pub tables : List (List (List Version))
   pub records : List Note
+  pub changes : List Change
   pub entries : List (List (Value × Rid))
   pub holds : List Hold
   pub waits : List Wait

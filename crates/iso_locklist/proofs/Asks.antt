@@ -56,7 +56,7 @@ line_by hs x w ws false e other ih =
     ap (λ (l : List Waiter). lines.before l x.conn) put ∙ more ∙ ap (λ (l : List Waiter). w ∷ l) ih ∙ sym (pass (stays hs x.conn) w ws (ap not e))
 
 -- who stands before a request, in a line
-line_front : (hs : List Hold) (x : Waiter) (ws : List Waiter) → is_some (waiter_of ws x.conn) ≡ false
+pub line_front : (hs : List Hold) (x : Waiter) (ws : List Waiter) → is_some (waiter_of ws x.conn) ≡ false
     → lines.before (lines.queued hs x ws) x.conn ≡ take_while (stays hs x.conn) ws
 line_front hs x [] none = rw (conn_same x.conn) refl
 line_front hs x (w ∷ ws) none =
@@ -176,7 +176,8 @@ looks_at ps n x unlike = record {
       ∙ none_beside (locks.is_held (holds_in ps) x.conn n) (not (locks.is_held (holds_in ps) w.conn m));
 }
 
-unheard_by : (ps : List Place) (c : Conn) (n : Name) (b : Bool) → is_some (waiter_of (line_at ps n).waiters c) ≡ b → count_by (λ (y : queues.Wait). conn_eq y.conn c) (waits_in ps) ≡ 0
+pub unheard_by : (ps : List Place) (c : Conn) (n : Name) (b : Bool) → is_some (waiter_of (line_at ps n).waiters c) ≡ b
+    → count_by (λ (y : queues.Wait). conn_eq y.conn c) (waits_in ps) ≡ 0
     → is_some (waiter_of (line_at ps n).waiters c) ≡ false
 unheard_by ps c n true e none =
     let more : 1 ≤ count_by (λ (y : queues.Wait). conn_eq y.conn c) (waits_in ps) = counted_wait c n ps e in

@@ -17,3 +17,11 @@ pub mod Shown
 pub mod Singles
 pub mod Totals
 pub mod Ends
+pub mod Alike
+pub mod AlikeHolds
+pub mod AlikeWaits
+pub mod AskedLists
+pub mod ClaimedLists
+pub mod SettledLists
+pub mod SingleLists
+pub mod AlikeClaims

@@ -45,13 +45,13 @@ unfolding locks.is_hold_of
 is_hold c h e f = rw (e, name_same h.name, f) refl
 
 -- a Brief hold of the list was Brief in it
-was : (c : Conn) (pre : List locks.Hold) (h : locks.Hold) (rest : List locks.Hold) → conn_eq h.conn c ≡ true → is_brief h.term ≡ true
+pub was : (c : Conn) (pre : List locks.Hold) (h : locks.Hold) (rest : List locks.Hold) → conn_eq h.conn c ≡ true → is_brief h.term ≡ true
     → locks.was_brief (pre ++ h ∷ rest) c h.name ≡ true
 was c pre h rest e f =
     let t = (λ (x : locks.Hold). locks.is_hold_of c h.name x && is_brief x.term) in
     list_any-append t pre (h ∷ rest) ∙ or_right (list_any t pre) (list_any t (h ∷ rest)) (ap (λ (b : Bool). b || list_any t rest) (is_hold c h e f))
 
-and_by : (a b w : Bool) → (a ≡ true → b ≡ true → w ≡ true) → (a && (b && w)) ≡ (a && b)
+pub and_by : (a b w : Bool) → (a ≡ true → b ≡ true → w ≡ true) → (a && (b && w)) ≡ (a && b)
 and_by true true w e = e refl refl
 and_by true false w e = refl
 and_by false b w e = refl
@@ -66,7 +66,7 @@ same_by c pre h rest false =
     ap not (and_by (conn_eq h.conn c) (is_brief h.term) (locks.was_brief (pre ++ h ∷ rest) c h.name) (λ e f. was c pre h rest e f))
 
 -- each Brief hold that is left was Brief before
-all_were : (c : Conn) (spare : Option Name) (pre hs : List locks.Hold)
+pub all_were : (c : Conn) (spare : Option Name) (pre hs : List locks.Hold)
     → filter (stays_after (pre ++ hs) c) (map (locks.settled_one c spare) hs) ≡ filter (stays c) (map (locks.settled_one c spare) hs)
 all_were c spare pre [] = refl
 all_were c spare pre (h ∷ hs) =

@@ -168,7 +168,7 @@ holds_edge ps n w unlike =
     ∙ ap (list_any (λ (h : locks.Hold). not (conn_eq h.conn w.conn) && not (compatible h.mode w.target))) (holds_of_name ps n unlike)
     ∙ any_map (λ (h : locks.Hold). not (conn_eq h.conn w.conn) && not (compatible h.mode w.target)) (named_hold n) (line_at ps n).holders
 
-edge_is : (ps : List Place) (n : Name) (w : Waiter) → are_apart (names ps) ≡ true → count_by (λ (y : queues.Wait). conn_eq y.conn w.conn) (waits_in ps) ≤ 1
+pub edge_is : (ps : List Place) (n : Name) (w : Waiter) → are_apart (names ps) ≡ true → count_by (λ (y : queues.Wait). conn_eq y.conn w.conn) (waits_in ps) ≤ 1
     → is_some (waiter_of (line_at ps n).waiters w.conn) ≡ true
     → queues.has_edge (holds_in ps) (waits_in ps) (named_wait n w) ≡ lines.has_edge (line_at ps n).holders (line_at ps n).waiters w
 edge_is ps n w unlike le some =

@@ -11,7 +11,7 @@ use Rattle.iso_locklist.specs.declared.room.Room.{Room}
 use Rattle.iso_locklist.specs.declared.room.Room.TheVariants.{AtCapacity, AtShare, Free}
 use Rattle.iso_modes.specs.Modes.{covers}
 use Rattle.iso_modes.specs.declared.Mode.{Mode}
-use Rattle.iso_queue.specs.Lines.{Line, edges_of, hold_of, is_grantable, is_touched, is_waiter, settled, unheld, unqueued, waiter_of}
+use Rattle.iso_queue.specs.Lines.{Line, edges_of, has_mode, hold_of, is_grantable, is_touched, is_waiter, settled, unheld, unqueued, waiter_of}
 use Rattle.iso_queue.specs.declared.types.Asked.{Asked}
 use Rattle.iso_types.specs.Ids.{name_eq}
 use Rattle.iso_types.specs.declared.value.Conn.{Conn}
@@ -100,6 +100,10 @@ room_for l c more = room_by (taken l.places c) (all_taken l.places) l.share l.sl
 -- a request needs a slot, or none where the connection holds or awaits the name
 abbrev pub need_of : List Place → Conn → Name → ℕ
 need_of ps c n = if is_touched (line_at ps n) c then 0 else 1
+
+-- the room for a request: where the connection holds the mode already it needs none
+abbrev pub room_to_ask : Ledger → Conn → Name → Mode → Room
+room_to_ask l c n m = if has_mode (line_at l.places n).holders c m then Free else room_for l c (need_of l.places c n)
 
 -- the connection's hold goes
 abbrev pub released : Line → Conn → Line

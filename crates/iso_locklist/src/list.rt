@@ -1,6 +1,6 @@
 ghost use Rattle.std.specs.Prelude.{◌≡◌, ◌<◌, ◌≤◌, [], IfOk, OnOk, OnErr, false, if◌then◌else◌, None, count_by, filter, length, map, slice_index_or, slice_set};
-ghost use Rattle.iso_locklist.specs.Lists.{IsHeads, IsSingle, StaySingle, holds_in, named_hold, named_wait, waits_in};
-ghost use Rattle.iso_locklist.specs.Places.{IsLimited, IsSameLimits, all_taken, cancelled, each_line, edges_in, is_covered, is_grantable_in, is_spared, line_at, need_of, released, room_for, taken, wait_in, changed};
+ghost use Rattle.iso_locklist.specs.Lists.{IsAsked, IsClaimed, IsHeads, IsHeadsIn, IsSingle, IsSingleIn, StaySingle, grants_in, holds_in, named_hold, named_wait, waits_in};
+ghost use Rattle.iso_locklist.specs.Places.{IsLimited, IsSameLimits, all_taken, cancelled, each_line, edges_in, is_covered, is_grantable_in, is_spared, line_at, need_of, released, room_for, room_to_ask, taken, wait_in, changed};
 ghost use Rattle.iso_locklist.specs.declared.places.Place.{Place as Entry};
 ghost use Rattle.iso_queue.specs.Lines.{asked, bits_of, claimed, hold_of, is_granted, is_guarded_against, is_used, settled, wait_for, would_wait};
 ghost use Rattle.iso_queue.specs.Locks.{dropped, freed, hold_on, others_guard, without_briefs};
@@ -20,9 +20,10 @@ ghost use Rattle.iso_types.specs.Head.{lock_share, lock_slots};
 
 use crate::covering::{index_tables, table_of};
 use crate::places::{
-    Change, Place, ask, change_at, claim_all, find_place, find_wait, need, queue_of,
+    Change, Place, ask, change_at, claim_all, find_place, find_wait, holds_mode, need, queue_of,
+    would_grant,
 };
-use crate::room::{LockFault, Room, room_in};
+use crate::room::{LockFault, Room, room_beside, room_in};
 use crate::snapshot::{in_order, list_lines};
 use iso_modes::{Mode, Term, covers};
 use iso_queue::{Asked, Claimed, Hold, LockLine};
@@ -117,12 +118,10 @@ impl LockList {
     /// Whether a request for the mode would be granted without a wait. Its cost is the number of names, and of those who
     /// hold or await the name.
     pub fn would_grant(&self, conn: Conn, name: Name, mode: Mode) -> bool
-        ensures { result ≡ is_granted (line_at self.now.places name) conn mode }
+        ensures line { result ≡ is_granted (line_at self.now.places name) conn mode }
+        ensures lists { count_by (λ x. conn_eq x.conn conn) (waits_in self.now.places) ≡ 0 → result ≡ grants_in (holds_in self.now.places) (waits_in self.now.places) conn name mode }
     {
-        match queue_of(&self.places, &name) {
-            Some(queue) => queue.would_grant(conn, mode),
-            None => true,
-        }
+        would_grant(&self.places, conn, &name, mode)
     }
 
     /// Whether the connection's hold on the name's table covers a request for the mode, which then takes no lock. Nothing
@@ -146,6 +145,14 @@ impl LockList {
         let place = find_wait(&self.places, conn)?;
         let wait = place.queue.wait(conn)?;
         Some((place.name, wait.target))
+    }
+
+    /// Whether the connection waits, and its wait has no edge: a claim is granted then. Its cost is the number of names, and
+    /// of those who hold or await the name on which it waits.
+    pub fn can_claim(&self, conn: Conn) -> bool
+        ensures { result ≡ is_grantable_in self.now.places conn }
+    {
+        self.places.iter().any(|place| place.queue.can_claim(conn))
     }
 
     /// The connections to which the connection's wait has an edge: each other holder of the name in a mode that does not
@@ -183,7 +190,7 @@ impl LockList {
 
     /// Requests the mode on the name. `Granted`: the connection holds it, with what it held before. `Queued`: it waits.
     /// Its need is a slot, or none where it holds or awaits the name. `AtShare`, `AtCapacity`: the need is at that limit,
-    /// whatever the queue. `Memory`: want of memory. After a fault nothing changed. Where the connection waits nowhere, who
+    /// whatever the queue; never where it holds the mode already. `Memory`: want of memory. After a fault nothing changed. Where the connection waits nowhere, who
     /// held no name twice and had one wait at most still does. Its cost is the number of names, and at most the product of
     /// those who hold and those who await the name.
     pub fn request(
@@ -194,10 +201,11 @@ impl LockList {
         term: Term,
     ) -> Result<Asked, LockFault>
         requires { conn.0 < 32 }
-        ensures limit { IsLimited (room_for self.old conn (need_of self.old.places conn name)) result }
+        ensures limit { IsLimited (room_to_ask self.old conn name mode) result }
         ensures answer { IfOk result (λ a. a ≡ (if is_granted (line_at self.old.places name) conn mode then Outcome.Granted else Outcome.Queued)) }
         ensures line { OnOk result (line_at self.new.places name ≡ asked (line_at self.old.places name) conn mode term) }
         ensures others { (n : Other) → name_eq name n ≡ false → line_at self.new.places n ≡ line_at self.old.places n }
+        ensures lists { count_by (λ x. conn_eq x.conn conn) (waits_in self.old.places) ≡ 0 → OnOk result (IsAsked (grants_in (holds_in self.old.places) (waits_in self.old.places) conn name mode) self.old.places self.new.places conn name mode term) }
         ensures single { wait_in self.old.places conn ≡ None → StaySingle self.old.places self.new.places }
         ensures limits { IsSameLimits self.new self.old }
         ensures err { OnErr result (self.new ≡ self.old) }
@@ -205,7 +213,8 @@ impl LockList {
         let name = &name;
         let at = conn.0 as usize;
         let need = need(&self.places, conn, name);
-        match room_in(self.counts[at], self.total, self.share, self.slots, need) {
+        let room = room_in(self.counts[at], self.total, self.share, self.slots, need);
+        match room_beside(holds_mode(&self.places, conn, name, mode), room) {
             Room::AtShare => return Err(LockFault::AtShare),
             Room::AtCapacity => return Err(LockFault::AtCapacity),
             Room::Free => {}
@@ -280,6 +289,7 @@ impl LockList {
     pub fn claim(&mut self, conn: Conn) -> Claimed
         ensures answer { result ≡ (if is_grantable_in self.old.places conn then Answer.Granted else Answer.NotYet) }
         ensures lines { (n : Other) → line_at self.new.places n ≡ claimed (line_at self.old.places n) conn }
+        ensures lists { count_by (λ x. conn_eq x.conn conn) (waits_in self.old.places) ≤ 1 → IsClaimed self.old.places self.new.places conn }
         ensures single { StaySingle self.old.places self.new.places }
         ensures limits { IsSameLimits self.new self.old }
     {
@@ -329,6 +339,15 @@ impl LockList {
     /// holds or awaits a name, the total is the sum of the counts in the lists.
     pub fn lists_count_all_names(&self, head: &Head)
         ensures { length head.now.conns ≤ 32 → ((c : Who) → IsSingle self.now.places c) → IsHeads head.now self.now.places → all_taken self.now.places ≡ limits.all_taken head.now (holds_in self.now.places) (waits_in self.now.places) }
+    {
+        let _ = &self.places;
+    }
+
+    /// Law: where in the lists the connection holds no name twice and has one wait at most, its count is the one in the lists;
+    /// and so is the total, where this holds of each connection and none but those of the head, at most 32, is in the lists.
+    pub fn lists_count_taken(&self, head: &Head, conn: Conn)
+        ensures each { IsSingleIn (holds_in self.now.places) (waits_in self.now.places) conn → taken self.now.places conn ≡ limits.taken (holds_in self.now.places) (waits_in self.now.places) conn }
+        ensures all { length head.now.conns ≤ 32 → ((c : Who) → IsSingleIn (holds_in self.now.places) (waits_in self.now.places) c) → IsHeadsIn head.now (holds_in self.now.places) (waits_in self.now.places) → all_taken self.now.places ≡ limits.all_taken head.now (holds_in self.now.places) (waits_in self.now.places) }
     {
         let _ = &self.places;
     }

@@ -2,12 +2,13 @@ ghost use Rattle.std.specs.Prelude.{◌≡◌, ◌+◌, ◌||◌, slice_set, ◌
 ghost use Rattle.std.specs.Option.{option_copied};
 ghost use Rattle.iso_locklist.specs.Places.{IsAbsent, IsPlaceOf, awaited, each_line, is_grantable_in, is_spared, line_at, need_of, nobody, one, updated, changed};
 ghost use Rattle.iso_locklist.specs.declared.places.Place.{Place as Entry};
-ghost use Rattle.iso_queue.specs.Lines.{asked, claimed, is_grantable, is_granted, is_touched};
+ghost use Rattle.iso_queue.specs.Lines.{asked, claimed, has_mode, is_grantable, is_granted, is_touched};
 ghost use Rattle.iso_queue.specs.declared.types.Asked.{Asked as Outcome};
 ghost use Rattle.iso_queue.specs.declared.types.Claimed.{Claimed as Answer};
+ghost use Rattle.iso_modes.specs.Modes.{mode_eq};
 ghost use Rattle.iso_types.specs.Ids.{name_eq};
 
-use iso_modes::{Mode, Term};
+use iso_modes::{Mode, Term, joined};
 use iso_queue::{Asked, Claimed, Queue};
 use iso_types::{Conn, Memory, Name};
 use std::alloc::Global;
@@ -76,6 +77,36 @@ pub fn need(places: &[Place], conn: Conn, name: &Name) -> u32
     match queue_of(places, name) {
         Some(queue) => { if queue.touches(conn) { 0 } else { 1 } }
         None => 1,
+    }
+}
+
+#[tactic(auto, unfolding(iso_modes::specs::Modes::mode_eq, iso_modes::specs::Modes::mode_number))]
+fn same_mode(a: Mode, b: Mode) -> bool
+    ensures { result ≡ mode_eq a b }
+{
+    a == b
+}
+
+/// Whether a request for the mode would be granted without a wait.
+pub fn would_grant(places: &[Place], conn: Conn, name: &Name, mode: Mode) -> bool
+    ensures { result ≡ is_granted (line_at places.now name.now) conn mode }
+{
+    match queue_of(places, name) {
+        Some(queue) => queue.would_grant(conn, mode),
+        None => true,
+    }
+}
+
+/// Whether the connection holds the mode already.
+pub fn holds_mode(places: &[Place], conn: Conn, name: &Name, mode: Mode) -> bool
+    ensures { result ≡ has_mode (line_at places.now name.now).holders conn mode }
+{
+    match queue_of(places, name) {
+        Some(queue) => match queue.hold(conn) {
+            Some(hold) => same_mode(joined(hold.mode, mode), hold.mode),
+            None => false,
+        },
+        None => false,
     }
 }
 

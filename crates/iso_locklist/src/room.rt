@@ -1,5 +1,6 @@
-ghost use Rattle.std.specs.Prelude.{◌≡◌};
+ghost use Rattle.std.specs.Prelude.{◌≡◌, if◌then◌else◌};
 ghost use Rattle.iso_locklist.specs.Places.{room_by};
+ghost use Rattle.iso_locklist.specs.declared.room.Room.TheVariants as rooms;
 
 /// Whether a need of more slots has room: `AtShare` where the connection's count with it passes the share of one
 /// connection, else `AtCapacity` where the total with it passes the slots.
@@ -30,4 +31,11 @@ pub fn room_in(count: u32, total: u32, share: u32, slots: u32, more: u32) -> Roo
     } else {
         Room::Free
     }
+}
+
+/// The same room, but all of it where the mode is held already.
+pub fn room_beside(held: bool, room: Room) -> Room
+    ensures { result ≡ (if held then rooms.Free else room) }
+{
+    if held { Room::Free } else { room }
 }

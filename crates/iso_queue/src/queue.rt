@@ -98,6 +98,16 @@ impl Queue {
         Claimed::Granted
     }
 
+    /// Whether the connection waits here, and its wait has no edge. It takes no memory.
+    pub fn can_claim(&self, conn: Conn) -> bool
+        ensures { result ≡ is_grantable self.now conn }
+    {
+        match lists::find_waiter(&self.waiters, conn) {
+            Some(wait) => !lists::is_stuck(&self.holders, &self.waiters, wait),
+            None => false,
+        }
+    }
+
     /// The connection's hold goes. It takes no memory.
     pub fn release(&mut self, conn: Conn)
         ensures holders { self.new.holders ≡ unheld conn self.old.holders }

@@ -1,5 +1,5 @@
 -- The first parts stand for the empty history.
-use Rattle.std.proofs.Common.{◌≡◌, ◌<◌, ◌+◌, ℕ, zero, suc, Bool, true, false, List, [], ◌∷◌, ◌++◌, length, map, refl, ap, ◌∙◌, Some, Option, filter, take, get_or, if◌then◌else◌, ◌&&◌, nat_lt, subst, arith}
+use Rattle.std.proofs.Common.{◌≡◌, ◌<◌, ◌≤◌, ◌+◌, ℕ, zero, suc, Bool, true, false, List, [], ◌∷◌, ◌++◌, length, map, refl, ap, ◌∙◌, Some, Option, filter, take, get_or, if◌then◌else◌, ◌&&◌, nat_lt, subst, arith}
 use Rattle.std.specs.Prelude.{cond, slice_index_or}
 use Rattle.std.specs.List.{list_all, range_with_len}
 use Rattle.std.proofs.lemmas.Bool.{eqb-true}
@@ -7,7 +7,7 @@ use Rattle.std.proofs.lemmas.Bool.Decides.{nat_tests}
 use Rattle.std.proofs.lemmas.List.{get_or_past, length-map, map-append}
 use Rattle.std.proofs.lemmas.List.Elements.{filter_more}
 use Rattle.std.proofs.lemmas.List.FromFn.{get_or-map-range_with_len, length-map-range_with_len}
-use Rattle.iso_types.specs.Head.{row_fits, rows_of, tables as tables_of}
+use Rattle.iso_types.specs.Head.{lock_share, lock_slots, row_fits, rows_of, tables as tables_of}
 use Rattle.iso_types.specs.Ids.{table_eq}
 use Rattle.iso_types.specs.declared.desk.Desk.{Desk}
 use Rattle.iso_types.specs.declared.desk.Phase.TheVariants.{Idle}
@@ -20,7 +20,9 @@ use Rattle.iso_history.specs.After.{start, world, world_from}
 use Rattle.iso_history.specs.Legal.{Ground, GroundFrom}
 use Rattle.iso_history.specs.declared.entry.Entry.{Entry}
 use Rattle.iso_history.specs.Versions.{first_version, present}
-use Rattle.iso_state.specs.Firsts.{first_content, first_desk}
+use Rattle.iso_locklist.specs.Places.{Ledger}
+use Rattle.iso_locklist.specs.declared.places.Place.{Place}
+use Rattle.iso_state.specs.Firsts.{first_content, first_desk, first_locks}
 use Rattle.iso_state.specs.Stands.{AreOf, RowsFit, Stands, no_desk}
 
 -- a conjunction gives both
@@ -74,6 +76,18 @@ all-idle [] k = refl
 all-idle (d ∷ ds) zero = refl
 all-idle (d ∷ ds) (suc k) = all-idle ds k
 
+-- each may wait
+all-wait : (ds : List ConnDef) (k : ℕ) → (slice_index_or (map first_desk ds) k no_desk).may_wait ≡ true
+all-wait [] k = refl
+all-wait (d ∷ ds) zero = refl
+all-wait (d ∷ ds) (suc k) = all-wait ds k
+
+-- and is not doomed
+none-doomed : (ds : List ConnDef) (k : ℕ) → (slice_index_or (map first_desk ds) k no_desk).doom ≡ 0
+none-doomed [] k = refl
+none-doomed (d ∷ ds) zero = refl
+none-doomed (d ∷ ds) (suc k) = none-doomed ds k
+
 -- the head's rows of a table fit it
 first-fit : (head : Head) (t : TableId) (rows : List FirstRow) → list_all (λ f. row_fits head f.table f.row) rows ≡ true
     → list_all (row_fits head t) (map (λ f. f.row) (filter (λ f. table_eq f.table t) rows)) ≡ true
@@ -108,14 +122,16 @@ first-all-fit head h t = go (nat_lt t.0 (length head.tables)) refl
 first-parts : (head : Head) → AreOf (start head) (first_content head)
 first-parts head = record {
   tables = first-slots head (tables_of head);
-  desks = λ c lt. all-idle head.conns c.0;
-  waits = refl;
+  locks = record { holds = λ n. refl; waits = λ n. refl };
+  desks = λ c lt. record { phase = all-idle head.conns c.0; may_wait = all-wait head.conns c.0; doom = none-doomed head.conns c.0 };
 }
 
-pub first-stands : (head : Head) → list_all (λ f. row_fits head f.table f.row) head.rows ≡ true → Stands (first_content head)
+pub first-stands : (head : Head) → length head.conns ≤ 32 → list_all (λ f. row_fits head f.table f.row) head.rows ≡ true → Stands (first_content head)
 unfolding world world_from Ground GroundFrom
-first-stands head fit = record {
+first-stands head few fit = record {
   parts = first-parts head;
+  few = few;
+  limits = record { share = refl; slots = refl; index_tables = refl };
   conns = length-map head.conns first_desk;
   wide = length-map (tables_of head) (rows_of head) ∙ length-map-range_with_len _ 0 (length head.tables);
   fit = first-all-fit head fit;
@@ -123,7 +139,16 @@ first-stands head fit = record {
 }
 
 -- the content, from what each part is
-pub first-is : (head copy : Head) (tables : List (List (List Value))) (desks : List Desk) (entries : List Entry)
-    → copy ≡ head → tables ≡ map (rows_of head) (tables_of head) → desks ≡ map first_desk head.conns → entries ≡ []
-    → record { head = copy; tables = tables; desks = desks; history = entries } ≡ first_content head
-first-is head copy tables desks entries same none idle empty = rw (same, none, idle, empty) refl
+pub first-is : (head copy : Head) (tables : List (List (List Value))) (locks : Ledger) (desks : List Desk) (entries : List Entry)
+    → copy ≡ head → tables ≡ map (rows_of head) (tables_of head) → locks ≡ first_locks head → desks ≡ map first_desk head.conns → entries ≡ []
+    → record { head = copy; tables = tables; locks = locks; desks = desks; history = entries } ≡ first_content head
+first-is head copy tables locks desks entries same none free idle empty = rw (same, none, free, idle, empty) refl
+
+-- the lock list, from its fields
+pub locks-are : (head : Head) (l : Ledger) → l.places ≡ [] → l.share ≡ lock_share head.config → l.slots ≡ lock_slots head.config
+    → l.index_tables ≡ map (λ d. d.table) head.indexes → l ≡ first_locks head
+locks-are head l places share slots index_tables = go l.places l.share l.slots l.index_tables places share slots index_tables
+  where
+    go : (ps : List Place) (a b : ℕ) (ts : List TableId) → ps ≡ [] → a ≡ lock_share head.config → b ≡ lock_slots head.config
+        → ts ≡ map (λ d. d.table) head.indexes → record { places = ps; share = a; slots = b; index_tables = ts } ≡ first_locks head
+    go ps a b ts e f g h = rw (e, f, g, h) refl

@@ -1,5 +1,5 @@
 -- Phases after one more entry.
-use Rattle.std.proofs.Common.{◌≡◌, ◌≢◌, ℕ, Bool, true, false, List, [], Some, None, Option, refl, ap, sym, ◌∙◌, arith}
+use Rattle.std.proofs.Common.{◌≡◌, ◌≢◌, ℕ, Bool, true, false, List, Some, None, Option, refl, ap, ◌∙◌, arith}
 use Rattle.std.specs.Prelude.{is_some, is_none, ℤ}
 use Rattle.std.proofs.lemmas.Bool.Decides.{nat_tests}
 use Rattle.iso_types.specs.declared.desk.Phase.{Phase}
@@ -7,12 +7,11 @@ use Rattle.iso_types.specs.declared.desk.Phase.TheVariants.{Closing, Idle, Runni
 use Rattle.iso_types.specs.declared.head.Head.{Head}
 use Rattle.iso_types.specs.declared.value.Conn.{Conn}
 use Rattle.iso_types.specs.declared.value.Value.{Value}
-use Rattle.iso_queue.specs.Queues.{Wait, is_waiting, unqueued}
+use Rattle.iso_queue.specs.Queues.{Wait, is_waiting}
 use Rattle.iso_history.specs.After.{after}
 use Rattle.iso_history.specs.Makers.{by_agent, by_dispatcher}
 use Rattle.iso_history.specs.Phases.{phase, phase_of}
 use Rattle.iso_history.specs.World.{World, at_conn}
-use Rattle.iso_history.specs.declared.entry.Act.{Act}
 use Rattle.iso_history.specs.declared.entry.Act.TheVariants.{Close, Dispatch, Reply}
 
 pub at_conn-same : {A : Type 0} (f : Conn → A) (c : Conn) (v : A) → at_conn f c v c ≡ v
@@ -75,28 +74,3 @@ module _ (head : Head) (w : World) (c : Conn) where
   pub reply-others : (code : ℤ) (changed : ℕ) (rows : List (List Value)) (d : Conn) → d.0 ≢ c.0
       → phase (after head w (by_agent c (Reply code changed rows))) d ≡ phase w d
   reply-others code changed rows d ne = ap (phase_with w d w.waits) (at_conn-other w.line c None d ne)
-
-  -- the connection's line is shut, and its waits go
-  pub shut-at : w.waits ≡ [] → phase w c ≡ Running → phase_with w c (unqueued c w.waits) (at_conn w.line c None c) ≡ Idle
-  shut-at none running =
-      ap (λ ws. phase_with w c (unqueued c ws) (at_conn w.line c None c)) none
-      ∙ ap (phase_with w c []) (at_conn-same w.line c None)
-      ∙ ap (λ ws. phase_with w c ws None) (sym none)
-      ∙ rests (w.ended c) (w.closing c) (is_some (w.doom c)) (is_waiting w.waits c) (is_none (w.line c)) running
-
-  pub shut-others : w.waits ≡ [] → (d : Conn) → d.0 ≢ c.0 → phase_with w d (unqueued c w.waits) (at_conn w.line c None d) ≡ phase w d
-  shut-others none d ne =
-      ap (λ ws. phase_with w d (unqueued c ws) (at_conn w.line c None d)) none
-      ∙ ap (phase_with w d []) (at_conn-other w.line c None d ne)
-      ∙ ap (λ ws. phase_with w d ws (w.line d)) (sym none)
-
-  pub ended-at : phase (after head w (by_agent c Act.Ended)) c ≡ Phase.Ended
-  ended-at =
-      ap (λ b. phase_of b (w.closing c) (is_some (w.doom c)) (is_waiting (unqueued c w.waits) c) (is_none (at_conn w.line c None c)))
-      (at_conn-same w.ended c true)
-
-  pub ended-others : w.waits ≡ [] → (d : Conn) → d.0 ≢ c.0 → phase (after head w (by_agent c Act.Ended)) d ≡ phase w d
-  ended-others none d ne =
-      ap (λ b. phase_of b (w.closing d) (is_some (w.doom d)) (is_waiting (unqueued c w.waits) d) (is_none (at_conn w.line c None d)))
-      (at_conn-other w.ended c true d ne)
-      ∙ shut-others none d ne

@@ -1,5 +1,5 @@
 pub mod Stands
-pub mod Looks
 pub mod Changes
 pub mod Firsts
 pub mod Tale
+pub mod Judged

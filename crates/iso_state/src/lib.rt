@@ -1,17 +1,19 @@
-//! The state, and the steps that add one entry to its history.
+//! The state, and what its steps have in common.
 #![tactic(auto)]
 
-mod answers;
 mod changes;
 mod ends;
+mod locks;
 mod parts;
-mod rows;
 mod state;
 mod turns;
 
-pub use answers::{Looked, Written};
-pub use ends::{commit, ended, reply};
+pub use changes::{desk_of, make_room, move_to, note};
+pub use ends::commit;
+pub use locks::{
+    Judged, can_claim, covered, enqueue, hold, is_fresh_on, is_limited, judge, place, take,
+    take_kept,
+};
 pub use parts::Parts;
-pub use rows::{insert, look, refuse, row_at};
 pub use state::State;
-pub use turns::{close, dispatch, finish};
+pub use turns::{dispatch, expire_wait};

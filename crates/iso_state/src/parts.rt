@@ -5,15 +5,17 @@ ghost use Rattle.iso_state.specs.Firsts.{first_content, first_desk};
 ghost use Rattle.iso_state.specs.Stands.{StandsFor, content_of};
 
 use iso_history::History;
+use iso_locklist::LockList;
 use iso_types::{ConnDef, Desk, Head, Items, Memory, Phase, Rows, TableId};
 use std::alloc::Global;
 
 /// The parts of the state: the head that it began with, for each table the rows of its slots by rid,
-/// for each connection its desk, and the history.
+/// the lock list, for each connection its desk, and the history.
 #[derive(Drop)]
 pub struct Parts {
     pub head: Head,
     pub tables: Items<Rows>,
+    pub locks: LockList,
     pub desks: Items<Desk>,
     pub history: History,
 }
@@ -71,6 +73,8 @@ impl Parts {
         requires tables { length head.now.tables ≤ 16 }
         requires conns { length head.now.conns ≤ 32 }
         requires fit { list_all (λ f. row_fits head.now f.table f.row) head.now.rows ≡ true }
+        requires pages { head.now.config.locklist ≤ 4096 }
+        requires percent { head.now.config.maxlocks ≤ 100 }
         ensures stands { IfOk result (λ p. StandsFor p) }
         ensures head { IfOk result (λ p. p.head ≡ head.now) }
         ensures content { IfOk result (λ p. content_of p ≡ first_content head.now) }
@@ -79,6 +83,7 @@ impl Parts {
         Ok(Parts {
             head: head.copied(alloc)?,
             tables: first_tables(alloc, head)?,
+            locks: LockList::new(alloc, head)?,
             desks: first_desks(alloc, &head.conns)?,
             history: History::new(alloc),
         })

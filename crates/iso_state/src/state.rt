@@ -33,6 +33,8 @@ impl State {
         requires tables { length head.now.tables ≤ 16 }
         requires conns { length head.now.conns ≤ 32 }
         requires fit { list_all (λ f. row_fits head.now f.table f.row) head.now.rows ≡ true }
+        requires pages { head.now.config.locklist ≤ 4096 }
+        requires percent { head.now.config.maxlocks ≤ 100 }
         ensures head { IfOk result (λ s. s.head ≡ head.now) }
         ensures history { IfOk result (λ s. s.history ≡ []) }
     {

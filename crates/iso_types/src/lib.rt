@@ -10,6 +10,7 @@ mod head;
 mod items;
 mod row;
 mod text;
+mod twin;
 mod value;
 
 pub use cycle::Cycle;
@@ -22,4 +23,5 @@ pub use head::{
 pub use items::{Items, Memory, StepFault};
 pub use row::{Row, Rows};
 pub use text::Text;
+pub use twin::Twin;
 pub use value::{Conn, IndexId, Name, Rid, TableId, Value};

@@ -2,7 +2,7 @@ use Rattle.std.proofs.Common.{drop, refl}
 use Rattle.iso_engine.specs.UnderWay.{IsIdle, IsUnderWay}
 use Rattle.iso_engine.proofs.Carry.{carried, either_way, kept, on_ok}
 use Rattle.iso_engine.proofs.Ends.{replied-on}
-use Rattle.iso_state.specs.Stands.{content_of}
+use Rattle.iso_first_state.specs.Stands.{content_of}
 use Rattle.iso_engine.proofs.insertion.answer_it.Goals as goal
 
 pub returns-clause-ok : goal.returns-clause-ok

@@ -5,7 +5,7 @@ use Rattle.iso_engine.specs.UnderWay.{IsRunning}
 use Rattle.iso_engine.proofs.Carry.{carried}
 use Rattle.iso_engine.proofs.Fitting.{row-stored}
 use Rattle.iso_engine.proofs.Turns.{inserted-on}
-use Rattle.iso_state.specs.declared.answers.Written.{Written}
+use Rattle.iso_first_state.specs.declared.answers.Written.{Written}
 use Rattle.iso_engine.proofs.insertion.insert_it.Goals as goal
 
 -- what was done had room

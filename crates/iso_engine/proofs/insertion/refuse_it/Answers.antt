@@ -3,7 +3,7 @@ use Rattle.iso_engine.specs.Scans.{refused_out}
 use Rattle.iso_engine.specs.UnderWay.{IsRunning, IsUnderWay}
 use Rattle.iso_engine.proofs.Carry.{carried, either_way, kept, on_ok}
 use Rattle.iso_engine.proofs.Turns.{refused-on}
-use Rattle.iso_state.specs.Stands.{content_of}
+use Rattle.iso_first_state.specs.Stands.{content_of}
 use Rattle.iso_engine.proofs.insertion.refuse_it.Goals as goal
 
 pub returns-clause-ok : goal.returns-clause-ok

@@ -2,7 +2,7 @@ use Rattle.std.proofs.Common.{drop}
 use Rattle.iso_engine.specs.UnderWay.{IsUnderWay}
 use Rattle.iso_engine.proofs.Carry.{kept}
 use Rattle.iso_engine.proofs.Looks.{goes-way, if_ok, looks, of_both}
-use Rattle.iso_state.specs.Stands.{content_of}
+use Rattle.iso_first_state.specs.Stands.{content_of}
 use Rattle.iso_engine.proofs.query.look_once.Goals as goal
 
 pub returns-clause-ok : goal.returns-clause-ok

@@ -2,7 +2,7 @@ use Rattle.std.proofs.Common.{◌≡◌, ◌≤◌, drop, length}
 use Rattle.iso_engine.specs.Scans.{scanning, select_of}
 use Rattle.iso_engine.specs.UnderWay.{IsRunning}
 use Rattle.iso_history.specs.Versions.{slots}
-use Rattle.iso_state.specs.Stands.{StandsFor, world_of}
+use Rattle.iso_first_state.specs.Stands.{StandsFor, world_of}
 use Rattle.iso_engine.proofs.query.run_query.Given as goal
 
 abbrev pub invariant-scan : goal.invariant-scan

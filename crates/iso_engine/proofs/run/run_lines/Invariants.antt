@@ -1,6 +1,6 @@
 use Rattle.std.proofs.Common.{◌≡◌, drop}
 use Rattle.iso_engine.specs.UnderWay.{IsIdle}
-use Rattle.iso_state.specs.Stands.{StandsFor}
+use Rattle.iso_first_state.specs.Stands.{StandsFor}
 use Rattle.iso_engine.proofs.run.run_lines.Given as goal
 
 abbrev pub invariant-lines : goal.invariant-lines

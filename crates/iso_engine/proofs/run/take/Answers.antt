@@ -1,10 +1,10 @@
 use Rattle.std.proofs.Common.{◌+◌, drop}
-use Rattle.iso_conduct.specs.Points.{start_point}
+use Rattle.iso_first_conduct.specs.Points.{start_point}
 use Rattle.iso_engine.specs.UnderWay.{IsRunning, IsSoFar}
 use Rattle.iso_engine.proofs.Carry.{carried, either_way, kept, on_ok}
 use Rattle.iso_engine.proofs.Ends.{so-far}
 use Rattle.iso_engine.proofs.Lines.{taken}
-use Rattle.iso_state.specs.Stands.{content_of}
+use Rattle.iso_first_state.specs.Stands.{content_of}
 use Rattle.iso_engine.proofs.run.take.Goals as goal
 
 pub returns-clause-ok : goal.returns-clause-ok

@@ -1,7 +1,7 @@
 use Rattle.iso_engine.specs.UnderWay.{IsClosing, IsSoFar}
 use Rattle.iso_engine.proofs.Carry.{carried, either_way, kept, on_ok}
 use Rattle.iso_engine.proofs.Ends.{closed-on, so-far}
-use Rattle.iso_state.specs.Stands.{content_of}
+use Rattle.iso_first_state.specs.Stands.{content_of}
 use Rattle.iso_engine.proofs.serial.close_it.Goals as goal
 
 pub returns-clause-ok : goal.returns-clause-ok

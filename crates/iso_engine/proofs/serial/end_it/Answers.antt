@@ -1,7 +1,7 @@
 use Rattle.iso_engine.specs.UnderWay.{IsOver, IsSoFar}
 use Rattle.iso_engine.proofs.Carry.{carried, either_way, kept, on_ok}
 use Rattle.iso_engine.proofs.Ends.{over-on, so-far}
-use Rattle.iso_state.specs.Stands.{content_of}
+use Rattle.iso_first_state.specs.Stands.{content_of}
 use Rattle.iso_engine.proofs.serial.end_it.Goals as goal
 
 pub returns-clause-ok : goal.returns-clause-ok

@@ -1,7 +1,7 @@
 use Rattle.iso_engine.specs.UnderWay.{IsSoFar}
 use Rattle.iso_engine.proofs.Carry.{carried, either_way, kept}
 use Rattle.iso_engine.proofs.Ends.{finished-on, over-bare, so-far}
-use Rattle.iso_state.specs.Stands.{content_of}
+use Rattle.iso_first_state.specs.Stands.{content_of}
 use Rattle.iso_engine.proofs.serial.finish_it.Goals as goal
 
 pub returns-clause-legal : goal.returns-clause-legal

@@ -1,0 +1,11 @@
+pub mod Slots
+pub mod Logs
+pub mod Works
+pub mod Stands
+pub mod Writes
+pub mod Facts
+pub mod Views
+pub mod Lines
+pub mod Firsts
+pub mod Laws
+pub mod Asked

@@ -1,0 +1,4 @@
+pub mod Undone
+pub mod Settled
+pub mod Updated
+pub mod FactsAlong

@@ -1,0 +1,5 @@
+pub mod Snoc
+pub mod Lasts
+pub mod Acts
+pub mod Answered
+pub mod Wholes

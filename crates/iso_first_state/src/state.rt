@@ -1,0 +1,68 @@
+ghost use Rattle.std.specs.List.{list_all};
+ghost use Rattle.std.specs.Prelude.{◌≡◌, ◌≤◌, true, [], length, IfOk};
+ghost use Rattle.iso_types.specs.Head.{row_fits};
+ghost use Rattle.iso_first_state.specs.Stands.{StandsFor};
+ghost use Rattle.iso_first_state.specs.Tale.{tale_of};
+
+use crate::parts::Parts;
+use iso_types::{Head, Memory};
+use std::alloc::Global;
+use std::marker::Model;
+
+/// Parts that stand for their history. Contracts see the head and the history.
+#[derive(Drop)]
+pub struct State {
+    parts: Parts,
+}
+
+impl Model for State {
+    ghost use Rattle.iso_first_state.specs.Stands.{StandsFor};
+    ghost use Rattle.iso_first_state.specs.Tale.{Tale, tale_of};
+
+    ghost Value = { Tale };
+
+    ghost view = { λ s. tale_of s.parts };
+
+    ghost invariant = { λ s. StandsFor s.parts };
+}
+
+impl State {
+    /// The state of the empty history over a copy of the head; `Memory` where there is none.
+    /// It copies all that the head declares.
+    pub fn new(alloc: Global, head: &Head) -> Result<State, Memory>
+        requires tables { length head.now.tables ≤ 16 }
+        requires conns { length head.now.conns ≤ 32 }
+        requires fit { list_all (λ f. row_fits head.now f.table f.row) head.now.rows ≡ true }
+        ensures head { IfOk result (λ s. s.head ≡ head.now) }
+        ensures history { IfOk result (λ s. s.history ≡ []) }
+    {
+        Ok(Parts::new(alloc, head)?.into_state())
+    }
+
+    /// The parts, for reading.
+    pub fn parts(&self) -> &Parts
+        ensures stands { StandsFor result.now }
+        ensures tale { tale_of result.now ≡ self.now }
+    {
+        &self.parts
+    }
+
+    /// The parts, for steps.
+    pub fn into_parts(self) -> Parts
+        ensures stands { StandsFor result }
+        ensures tale { tale_of result ≡ self }
+    {
+        let State { parts } = self;
+        parts
+    }
+}
+
+impl Parts {
+    /// The state of parts that stand for their history.
+    pub fn into_state(self) -> State
+        requires stands { StandsFor self }
+        ensures tale { result ≡ tale_of self }
+    {
+        State { parts: self }
+    }
+}

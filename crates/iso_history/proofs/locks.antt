@@ -1,0 +1,14 @@
+pub mod Tests
+pub mod Same
+pub mod Finds
+pub mod Holds
+pub mod Placing
+pub mod Fits
+pub mod Modes
+pub mod Stands
+pub mod Inherits
+pub mod Hands
+pub mod Queues
+pub mod Joins
+pub mod Lists
+pub mod There

@@ -1,0 +1,4 @@
+pub mod Writers
+pub mod Sound
+pub mod Journal
+pub mod Guarded

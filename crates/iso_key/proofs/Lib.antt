@@ -1,0 +1,12 @@
+pub mod Truths
+pub mod Values
+pub mod Pairs
+pub mod Ordered
+pub mod Compared
+pub mod Splits
+pub mod Rises
+pub mod Behind
+pub mod Keys
+pub mod Placed
+pub mod Removed
+pub mod Taken

@@ -1,0 +1,6 @@
+//! The log: records of changes and of their undoing, oldest first.
+#![tactic(auto)]
+
+mod log;
+
+pub use log::{Log, LogFault};

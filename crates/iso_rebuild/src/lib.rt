@@ -1,0 +1,6 @@
+//! The row that a slot showed before the changes that are pending in it, from the records of the log.
+#![tactic(auto)]
+
+mod past;
+
+pub use past::{Past, rebuild};

@@ -1,0 +1,8 @@
+//! A list that only grows, and stretches of it that are kept by themselves.
+#![tactic(auto)]
+
+mod pin;
+mod store;
+
+pub use pin::Pin;
+pub use store::Store;
