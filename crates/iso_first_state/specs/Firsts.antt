@@ -1,5 +1,5 @@
 -- What the parts hold before the first entry.
-use Rattle.std.specs.Prelude.{true, [], map}
+use Rattle.std.specs.Prelude.{true, false, [], map}
 use Rattle.iso_types.specs.Head.{rows_of, tables}
 use Rattle.iso_types.specs.declared.desk.Desk.{Desk}
 use Rattle.iso_types.specs.declared.desk.Phase.TheVariants.{Idle}
@@ -9,7 +9,7 @@ use Rattle.iso_first_state.specs.Stands.{Content}
 
 -- a connection is idle at first, at the level of its CONNECT line, and its requests may queue
 abbrev pub first_desk : ConnDef → Desk
-first_desk d = record { phase = Idle; line = 0; isolation = d.isolation; may_wait = true; doom = 0; start = 0 }
+first_desk d = record { phase = Idle; line = 0; isolation = d.isolation; may_wait = true; doom = 0; start = 0; claimed = false }
 
 -- a slot for each row that the head gives a table, each connection at its first desk, and no entry
 abbrev pub first_content : Head → Content

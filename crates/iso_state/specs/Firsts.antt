@@ -1,5 +1,5 @@
 -- What the parts hold before the first entry.
-use Rattle.std.specs.Prelude.{true, [], map}
+use Rattle.std.specs.Prelude.{true, false, [], map}
 use Rattle.iso_types.specs.Head.{lock_share, lock_slots, rows_of, tables}
 use Rattle.iso_types.specs.declared.desk.Desk.{Desk}
 use Rattle.iso_types.specs.declared.desk.Phase.TheVariants.{Idle}
@@ -10,7 +10,7 @@ use Rattle.iso_state.specs.Stands.{Content}
 
 -- a connection is idle at first, at the level of its CONNECT line, and its requests may queue
 abbrev pub first_desk : ConnDef → Desk
-first_desk d = record { phase = Idle; line = 0; isolation = d.isolation; may_wait = true; doom = 0; start = 0 }
+first_desk d = record { phase = Idle; line = 0; isolation = d.isolation; may_wait = true; doom = 0; start = 0; claimed = false }
 
 -- nobody holds or awaits a name
 abbrev pub first_locks : Head → Ledger

@@ -1,6 +1,6 @@
 -- When parts stand for their history.
 use Rattle.std.specs.List.{list_all}
-use Rattle.std.specs.Prelude.{◌≡◌, ◌<◌, ◌≤◌, true, List, [], length, map, Some, slice_index_or, unwrap_or}
+use Rattle.std.specs.Prelude.{◌≡◌, ◌<◌, ◌≤◌, true, false, List, [], length, map, Some, slice_index_or, unwrap_or}
 use Rattle.iso_types.specs.Head.{lock_share, lock_slots, row_fits}
 use Rattle.iso_types.specs.declared.desk.Desk.{Desk}
 use Rattle.iso_types.specs.declared.desk.Phase.TheVariants.{Idle}
@@ -36,7 +36,7 @@ content_of p = record { head = p.head; tables = p.tables; locks = p.locks; desks
 
 -- what stands for a desk that is not there
 abbrev pub no_desk : Desk
-no_desk = record { phase = Idle; line = 0; isolation = Cs; may_wait = true; doom = 0; start = 0 }
+no_desk = record { phase = Idle; line = 0; isolation = Cs; may_wait = true; doom = 0; start = 0; claimed = false }
 
 -- the desk of a connection
 abbrev pub desk_at : List Desk → Conn → Desk

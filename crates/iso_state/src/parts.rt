@@ -60,6 +60,7 @@ fn first_desks(alloc: Global, conns: &Items<ConnDef>) -> Result<Items<Desk>, Mem
             may_wait: true,
             doom: 0,
             start: 0,
+            claimed: false,
         })?;
     }
     Ok(desks)

@@ -26,4 +26,6 @@ pub struct Desk {
     pub doom: u8,
     /// The number of log records when the open statement was dispatched.
     pub start: u32,
+    /// Whether the connection's last own entry is a Claim: the look after it spares its row's lock.
+    pub claimed: bool,
 }
