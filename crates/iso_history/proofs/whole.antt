@@ -3,3 +3,4 @@ pub mod Sound
 pub mod Journal
 pub mod Guarded
 pub mod Looking
+pub mod Locks

@@ -1,7 +1,7 @@
 ghost use Rattle.std.specs.Prelude.{◌≡◌, ◌+◌, ◌≤◌, ◌<◌, ℕ, List, [], Some, true, false, length, take};
 ghost use Rattle.std.specs.List.{list_all};
 ghost use Rattle.iso_history.specs.After.{world};
-ghost use Rattle.iso_history.specs.Facts.{IsSound, LogSound};
+ghost use Rattle.iso_history.specs.Facts.{IsSound, LockFacts, LogSound};
 ghost use Rattle.iso_history.specs.Guards.{HoldsGuarded, RangesGuarded, ReadsGuarded, RowsGuarded, TablesGuarded, world_at};
 ghost use Rattle.iso_history.specs.Legal.{Ground};
 ghost use Rattle.iso_history.specs.Looks.{locks_row, look, may_look};
@@ -35,9 +35,10 @@ pub fn guards_hold()
     ensures ranges { (head : Head) (es : List Entry) → Ground head es → are_plain es ≡ true → AreChained head es → RangesGuarded head es }
 {}
 
-/// The world of every legal history is sound, and so is its log where the head's rows fit.
+/// The world of every legal history is sound, has all that the steps of locks ask of it, and so is its log where the head's rows fit.
 pub fn worlds_are_sound()
     ensures sound { (head : Head) (es : List Entry) → Ground head es → IsSound head (world head es) }
+    ensures locks { (head : Head) (es : List Entry) → Ground head es → LockFacts head (world head es) }
     ensures logs { (head : Head) (es : List Entry) → list_all (λ f. row_fits head f.table f.row) head.rows ≡ true
         → Ground head es → LogSound head (world head es) }
 {}

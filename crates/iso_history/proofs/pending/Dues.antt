@@ -79,7 +79,7 @@ added-new (g ∷ gs) c r same e = go (added-new gs c r same) (is_hold_of c r.nam
 
 module _ (head : Head) (w : World) (tables : TablesKept w.holds) where
   -- the connection's table lock where its entry places nothing
-  table-leaves : (c : Conn) (a : Act) (t : TableId) → hand_of head w c a ≡ Leaves
+  pub table-leaves : (c : Conn) (a : Act) (t : TableId) → hand_of head w c a ≡ Leaves
       → held (holds_by_agent head w c a) c (Table t) ≡ held w.holds c (Table t)
   unfolding TablesKept
   table-leaves c a t l = ap (λ z. held (without_briefs w.holds c (holds_by_hand head c z mid)) c (Table t)) l ∙ go (hold_on w.holds c (Table t)) refl

@@ -1,6 +1,5 @@
 -- A look that locks its row, or is settled, shows no row beside another unit's change.
-use Rattle.std.proofs.Common.{◌≡◌, ◌⊎◌, inl, inr, ℕ, Bool, true, false, not, ◌&&◌, ◌||◌, List, [], ◌∷◌, refl, ap, sym, ◌∙◌, Some, None, Option, if◌then◌else◌, is_some}
-use Rattle.std.specs.List.{list_any}
+use Rattle.std.proofs.Common.{◌≡◌, ◌⊎◌, inl, inr, ℕ, Bool, true, false, not, ◌||◌, List, [], ◌∷◌, refl, ap, sym, ◌∙◌, Some, None, Option, if◌then◌else◌, is_some}
 use Rattle.std.specs.Option.{option_map, option_map_or}
 use Rattle.std.proofs.lemmas.Bool.{and_parts, or_cases}
 use Rattle.iso_history.proofs.facts.Excludes.{apart-not, excludes, has_lock, kept-writes, passing}
@@ -16,7 +15,7 @@ use Rattle.iso_history.specs.Looks.{is_settled, locks_row, look, look_asks, may_
 use Rattle.iso_history.specs.Requests.{asking, is_backed, is_had, is_limited, is_row_mode, may_ask, need_of, request, table_mode}
 use Rattle.iso_history.specs.Requests.Outcome.{Gives}
 use Rattle.iso_history.specs.Units.{unit_of}
-use Rattle.iso_history.specs.Versions.{committed, is_changed_beside, is_dead, is_pending, is_pending_beside, versions}
+use Rattle.iso_history.specs.Versions.{is_changed_beside, is_dead, is_pending, is_pending_beside, versions}
 use Rattle.iso_history.specs.World.{Version, World}
 use Rattle.iso_history.specs.declared.entry.Got.{Got}
 use Rattle.iso_history.specs.declared.entry.Want.{Want}
@@ -24,7 +23,7 @@ use Rattle.iso_history.specs.declared.entry.Want.TheVariants.{Alter, AlterKept, 
 use Rattle.iso_modes.specs.Modes.{at_least, compatible, covers, joined, mode_eq, mode_number}
 use Rattle.iso_modes.proofs.Modes.{mode_eq-is}
 use Rattle.iso_modes.specs.declared.Mode.{Mode}
-use Rattle.iso_modes.specs.declared.Mode.TheVariants.{Is, Ns, S, U, X}
+use Rattle.iso_modes.specs.declared.Mode.TheVariants.{Is, Ns, X}
 use Rattle.iso_modes.specs.declared.Term.{Term}
 use Rattle.iso_queue.specs.Locks.{held, holds_at_least, is_covered, target}
 use Rattle.iso_queue.specs.Queues.{would_wait}
