@@ -7,11 +7,6 @@ pub mod LockReads
 pub mod LockWrites
 pub mod Waits
 pub mod EndSteps
-pub mod Others
-pub mod Joins
-pub mod Plain
 pub mod News
-pub mod Uncovered
-pub mod Covers
 pub mod DispatcherSteps
 pub mod FactsAlong
