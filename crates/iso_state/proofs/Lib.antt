@@ -1,12 +1,9 @@
 pub mod Phases
-pub mod Seats
-pub mod Shown
-pub mod Tables
+pub mod Desks
+pub mod Steps
 pub mod FirstParts
 pub mod LockReads
 pub mod LockWrites
 pub mod Waits
-pub mod EndSteps
 pub mod News
-pub mod DispatcherSteps
 pub mod FactsAlong

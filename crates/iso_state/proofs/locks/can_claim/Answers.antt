@@ -10,6 +10,6 @@ pub returns : goal.returns
 returns c =
     let p = c.args.parts.now in
     let are = c.requires.stands.parts.locks in
-    let one = one-wait p.head (world_of p) p.locks.places are (facts-of c.requires.stands) c.args.conn in
+    let one = one-wait p.head (world_of p) p.locks.places are (facts-of c.requires.stands.stands) c.args.conn in
     c.can_claim.ensures ∙ c.lists_tell_each_wait.ensures.grantable one
     ∙ alike_grantable (holds_in p.locks.places) (world_of p).holds are.holds (waits_in p.locks.places) (world_of p).waits are.waits c.args.conn one

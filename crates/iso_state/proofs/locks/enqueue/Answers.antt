@@ -7,7 +7,7 @@ use Rattle.iso_state.proofs.FactsAlong.{facts-of}
 pub returns-in-Ok-clause-ok : goal.returns-in-Ok-clause-ok
 returns-in-Ok-clause-ok c =
     let p = c.args.parts.now in
-    queued-are p.head (world_of p) p.locks.places c.requires.stands.parts.locks (facts-of c.requires.stands) c.args.conn c.args.name.now c.args.mode c.args.term
+    queued-are p.head (world_of p) p.locks.places c.requires.stands.parts.locks (facts-of c.requires.stands.stands) c.args.conn c.args.name.now c.args.mode c.args.term
     c.request.new.self.places c.requires.idle
-    (c.in-Ok.ensures.lists (no-wait p.head (world_of p) p.locks.places c.requires.stands.parts.locks (facts-of c.requires.stands) c.args.conn c.requires.idle))
+    (c.in-Ok.ensures.lists (no-wait p.head (world_of p) p.locks.places c.requires.stands.parts.locks (facts-of c.requires.stands.stands) c.args.conn c.requires.idle))
     c.args.to c.requires.queues
