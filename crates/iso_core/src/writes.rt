@@ -33,6 +33,7 @@ fn oldest_of_core(core: &Core) -> u32
 /// Writes an update that is not past the log, and its entry; after `Memory` all is as before.
 fn write_update(
     core: &mut Core,
+    alloc: Global,
     conn: Conn,
     table: TableId,
     rid: Rid,
@@ -55,6 +56,7 @@ fn write_update(
     let oldest = oldest_of_core(core);
     let debt = core.units.debt();
     let done = write_updated(
+        alloc,
         &mut core.tables,
         &mut core.log,
         &mut core.units,
@@ -111,6 +113,6 @@ pub fn update(
     let copy = row.copied(alloc)?;
     let slot = slot_of(&core.tables, table, rid);
     let list = olds_of(alloc, slot.row.as_slice(), row.as_slice())?;
-    write_update(core, conn, table, rid, written, copy, list)?;
+    write_update(core, alloc, conn, table, rid, written, copy, list)?;
     Ok(())
 }
