@@ -3,7 +3,7 @@ use Rattle.std.proofs.Common.{◌≡◌, ◌≤◌, Bool, true, false, not, ◌&
 use Rattle.std.specs.List.{list_any}
 use Rattle.std.specs.Option.{option_map, option_map_or}
 use Rattle.std.specs.Prelude.{count_by, filter, find, if◌then◌else◌, is_some, take_while, ◌++◌, Option, None, Some}
-use Rattle.iso_locklist.specs.Holding.{AreLines, AreOfHead}
+use Rattle.iso_locklist.specs.Holding.{AreLines, AreOfHead, WaitsOnce}
 use Rattle.iso_locklist.specs.Lists.{HoldsAlike, IsAsked, IsClaimed, IsSingleIn, WaitsAlike, asked_for, claimed_holds, claimed_waits, grants_in, holds_in, named_hold, named_wait, waiting_for, waits_in}
 use Rattle.iso_locklist.specs.Places.{all_taken, are_apart, cancelled, edges_in, is_grantable_in, is_spared as spares, line_at, names, nobody, one, released, taken, wait_in}
 use Rattle.iso_locklist.specs.declared.places.Place.{Place}
@@ -248,13 +248,13 @@ module _ (ps : List Place) (unlike : are_apart (names ps) ≡ true) (hs : List H
   none_waits : (c : Conn) → is_waiting xs c ≡ false → count_by (own c) (waits_in ps) ≡ 0
   none_waits c idle = waits_count c ∙ none_counted (own c) xs idle
 
-  one_waits : (c : Conn) → IsSingleIn hs xs c → count_by (own c) (waits_in ps) ≤ 1
-  one_waits c single = omega (arith, waits_count c, single.waits)
+  one_waits : (c : Conn) → WaitsOnce xs c → count_by (own c) (waits_in ps) ≤ 1
+  one_waits c once = omega (arith, waits_count c, once)
 
   single_here : (c : Conn) → IsSingleIn hs xs c → IsSingleIn (holds_in ps) (waits_in ps) c
   single_here c single = record {
     holds = λ n. omega (arith, alike_count (λ h. h.name) (is_hold_of c n) (holds_in ps) hs holds_like, single.holds n);
-    waits = one_waits c single;
+    waits = one_waits c single.waits;
   }
 
   pub covered_shown : (head : Head) (c : Conn) (n : Name) (m : Mode) → locks.is_covered head (holds_in ps) c n m ≡ locks.is_covered head hs c n m
@@ -269,17 +269,17 @@ module _ (ps : List Place) (unlike : are_apart (names ps) ≡ true) (hs : List H
       (alike_would_wait (holds_in ps) hs holds_like (waits_in ps) xs waits_like (waiting_for (holds_in ps) c n m Brief) none)
       ∙ rw same refl
 
-  pub grantable_shown : (c : Conn) → IsSingleIn hs xs c → is_grantable_in ps c ≡ is_grantable hs xs c
+  pub grantable_shown : (c : Conn) → WaitsOnce xs c → is_grantable_in ps c ≡ is_grantable hs xs c
   grantable_shown c single =
       grantable_told ps c unlike (one_waits c single) ∙ alike_grantable (holds_in ps) hs holds_like (waits_in ps) xs waits_like c (one_waits c single)
 
-  wait_same : (c : Conn) → IsSingleIn hs xs c → wait_of (waits_in ps) c ≡ wait_of xs c
+  wait_same : (c : Conn) → WaitsOnce xs c → wait_of (waits_in ps) c ≡ wait_of xs c
   wait_same c single = alike_wait_of (holds_in ps) hs holds_like (waits_in ps) xs waits_like c (one_waits c single)
 
-  pub wait_shown : (c : Conn) → IsSingleIn hs xs c → wait_in ps c ≡ option_map (λ (x : Wait). (x.name, x.target)) (wait_of xs c)
+  pub wait_shown : (c : Conn) → WaitsOnce xs c → wait_in ps c ≡ option_map (λ (x : Wait). (x.name, x.target)) (wait_of xs c)
   wait_shown c single = wait_told ps c ∙ ap (option_map (λ (x : Wait). (x.name, x.target))) (wait_same c single)
 
-  pub edges_shown : (c : Conn) → IsSingleIn hs xs c → edges_in ps c ≡ option_map_or (λ x. bits_of (λ d. list_any (conn_eq d) (blockers hs xs x)) 32) (wait_of xs c) 0
+  pub edges_shown : (c : Conn) → WaitsOnce xs c → edges_in ps c ≡ option_map_or (λ x. bits_of (λ d. list_any (conn_eq d) (blockers hs xs x)) 32) (wait_of xs c) 0
   edges_shown c single = edges_is ps c unlike (one_waits c single) ∙ go (wait_of (waits_in ps) c) refl
     where
       go : (o : Option Wait) → wait_of (waits_in ps) c ≡ o
@@ -294,13 +294,13 @@ module _ (ps : List Place) (unlike : are_apart (names ps) ≡ true) (hs : List H
   pub taken_shown : (c : Conn) → IsSingleIn hs xs c → taken ps c ≡ limits.taken hs xs c
   taken_shown c single =
       taken_in_lists ps c unlike (single_in ps c unlike (single_here c single))
-      ∙ alike_taken (holds_in ps) hs holds_like (waits_in ps) xs waits_like c (one_waits c single)
+      ∙ alike_taken (holds_in ps) hs holds_like (waits_in ps) xs waits_like c (one_waits c single.waits)
 
   pub total_shown : (head : Head) → AreOfHead head hs xs → all_taken ps ≡ limits.all_taken head hs xs
   total_shown head of_head =
       total_in_lists head ps unlike of_head.few (λ d. single_in ps d unlike (single_here d (of_head.single d)))
       (λ d none. taken_shown d (of_head.single d) ∙ of_head.conns d none)
-      ∙ alike_all_taken (holds_in ps) hs holds_like (waits_in ps) xs waits_like head (λ d. one_waits d (of_head.single d))
+      ∙ alike_all_taken (holds_in ps) hs holds_like (waits_in ps) xs waits_like head (λ d. one_waits d (of_head.single d).waits)
 
 -- the lists of places that stand for what is alike
 pub alike_are : (ps : List Place) → are_apart (names ps) ≡ true → (hs : List Hold) (xs : List Wait) → HoldsAlike (holds_in ps) hs → WaitsAlike (waits_in ps) xs
@@ -312,7 +312,7 @@ alike_are ps unlike hs xs holds waits = record {
 
 module _ (ps qs : List Place) (unlike : are_apart (names ps) ≡ true) (still : are_apart (names qs) ≡ true)
     (hs : List Hold) (xs : List Wait) (are : AreLines hs xs (line_at ps)) (c : Conn) where
-  pub claimed_are : IsSingleIn hs xs c → (count_by (own c) (waits_in ps) ≤ 1 → IsClaimed ps qs c)
+  pub claimed_are : WaitsOnce xs c → (count_by (own c) (waits_in ps) ≤ 1 → IsClaimed ps qs c)
       → AreLines (claimed_holds hs xs c) (claimed_waits hs xs c) (line_at qs)
   claimed_are single claimed =
       let le = one_waits ps unlike hs xs are c single in

@@ -1,6 +1,6 @@
 -- When a lock list stands for a history's holds and waits. Nothing of how names are kept is told.
 use Rattle.std.specs.Option.{option_map_or}
-use Rattle.std.specs.Prelude.{◌≡◌, ◌≤◌, ℕ, Bool, List, true, false, filter, length, map}
+use Rattle.std.specs.Prelude.{◌≡◌, ◌≤◌, ℕ, Bool, List, true, false, count_by, filter, length, map}
 use Rattle.iso_locklist.specs.Lists.{IsHeadsIn, IsSingleIn, asked_for, named_hold, named_wait, waiting_for}
 use Rattle.iso_locklist.specs.Places.{Ledger, line_at, room_by}
 use Rattle.iso_locklist.specs.declared.room.Room.{Room}
@@ -11,7 +11,7 @@ use Rattle.iso_queue.specs.Limits.{all_taken, taken}
 use Rattle.iso_queue.specs.Lines.{Line}
 use Rattle.iso_queue.specs.Locks.{Hold, added, held, target}
 use Rattle.iso_queue.specs.Queues.{Wait, queue, queued}
-use Rattle.iso_types.specs.Ids.{name_eq}
+use Rattle.iso_types.specs.Ids.{conn_eq, name_eq}
 use Rattle.iso_types.specs.declared.head.Head.{Head}
 use Rattle.iso_types.specs.declared.head.IndexDef.{IndexDef}
 use Rattle.iso_types.specs.declared.value.Conn.{Conn}
@@ -41,6 +41,10 @@ holds_mode hs c n m = option_map_or (mode_eq (target hs c n m)) (held hs c n) fa
 -- whether a need of that many more names is at a limit
 abbrev pub room_in_lists : Head → Ledger → List Hold → List Wait → Conn → ℕ → Room
 room_in_lists head l hs xs c k = room_by (taken hs xs c) (all_taken head hs xs) l.share l.slots k
+
+-- the connection has one wait at most
+abbrev pub WaitsOnce : List Wait → Conn → Type 0
+WaitsOnce xs c = count_by (λ x. conn_eq x.conn c) xs ≤ 1
 
 -- no connection holds a name twice or has two waits, and none but the head's, at most 32, holds or awaits one
 pub record AreOfHead (head : Head) (hs : List Hold) (xs : List Wait) : Type 0 where

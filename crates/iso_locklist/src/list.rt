@@ -1,5 +1,5 @@
 ghost use Rattle.std.specs.Prelude.{List, ◌≡◌, ◌<◌, ◌≤◌, [], IfOk, OnOk, OnErr, false, if◌then◌else◌, None, count_by, filter, length, map, slice_index_or, slice_set};
-ghost use Rattle.iso_locklist.specs.Holding.{AreAsked, AreOfHead, HasTables, LocksAre, room_in_lists};
+ghost use Rattle.iso_locklist.specs.Holding.{AreAsked, AreOfHead, HasTables, LocksAre, WaitsOnce, room_in_lists};
 ghost use Rattle.iso_locklist.specs.Lists.{IsHeads, IsHeadsIn, IsSingle, IsSingleIn, StaySingle, claimed_holds, claimed_waits, grants_in, holds_in, named_hold, named_wait, waits_in};
 ghost use Rattle.iso_locklist.specs.Places.{IsLimited, IsSameLimits, all_taken, cancelled, each_line, edges_in, is_covered, is_grantable_in, is_spared, line_at, need_of, released, room_for, room_to_ask, taken, wait_in, changed};
 ghost use Rattle.iso_locklist.specs.declared.places.Place.{Place as Entry};
@@ -132,7 +132,7 @@ impl LockList {
 
     /// The name and the target of the connection's wait. Its cost is the number of names and of all who await them.
     pub fn waits(&self, conn: Conn) -> Option<(Name, Mode)>
-        ensures { (hs : List Held) (xs : List Awaiting) → LocksAre hs xs self.now → IsSingleIn hs xs conn → result ≡ option_map (λ x. (x.name, x.target)) (wait_of xs conn) }
+        ensures { (hs : List Held) (xs : List Awaiting) → LocksAre hs xs self.now → WaitsOnce xs conn → result ≡ option_map (λ x. (x.name, x.target)) (wait_of xs conn) }
     {
         let _ = &self.places;
         self.wait_at(conn)
@@ -141,7 +141,7 @@ impl LockList {
     /// Whether the connection waits, and its wait has no edge: a claim is granted then. Its cost is the number of names, and
     /// of those who hold or await the name on which it waits.
     pub fn can_claim(&self, conn: Conn) -> bool
-        ensures { (hs : List Held) (xs : List Awaiting) → LocksAre hs xs self.now → IsSingleIn hs xs conn → result ≡ queues.is_grantable hs xs conn }
+        ensures { (hs : List Held) (xs : List Awaiting) → LocksAre hs xs self.now → WaitsOnce xs conn → result ≡ queues.is_grantable hs xs conn }
     {
         let _ = &self.places;
         self.can_claim_at(conn)
@@ -151,7 +151,7 @@ impl LockList {
     /// go with the target, and each earlier waiter. Its cost is the number of names and of all who await them, and 32 times
     /// the number of those who hold or await the name.
     pub fn edges(&self, conn: Conn) -> Edges
-        ensures { (hs : List Held) (xs : List Awaiting) → LocksAre hs xs self.now → IsSingleIn hs xs conn → result.0 ≡ option_map_or (λ x. bits_of (λ d. list_any (conn_eq d) (queues.blockers hs xs x)) 32) (wait_of xs conn) 0 }
+        ensures { (hs : List Held) (xs : List Awaiting) → LocksAre hs xs self.now → WaitsOnce xs conn → result.0 ≡ option_map_or (λ x. bits_of (λ d. list_any (conn_eq d) (queues.blockers hs xs x)) 32) (wait_of xs conn) 0 }
     {
         let _ = &self.places;
         self.edges_at(conn)
@@ -266,8 +266,8 @@ impl LockList {
     pub fn claim(&mut self, conn: Conn) -> Claimed
         ensures answer { result ≡ (if is_grantable_in self.old.places conn then Answer.Granted else Answer.NotYet) }
         ensures lines { (n : Other) → line_at self.new.places n ≡ claimed (line_at self.old.places n) conn }
-        ensures lists { (hs : List Held) (xs : List Awaiting) → LocksAre hs xs self.old → IsSingleIn hs xs conn → LocksAre (claimed_holds hs xs conn) (claimed_waits hs xs conn) self.new }
-        ensures told { (hs : List Held) (xs : List Awaiting) → LocksAre hs xs self.old → IsSingleIn hs xs conn → result ≡ (if queues.is_grantable hs xs conn then Answer.Granted else Answer.NotYet) }
+        ensures lists { (hs : List Held) (xs : List Awaiting) → LocksAre hs xs self.old → WaitsOnce xs conn → LocksAre (claimed_holds hs xs conn) (claimed_waits hs xs conn) self.new }
+        ensures told { (hs : List Held) (xs : List Awaiting) → LocksAre hs xs self.old → WaitsOnce xs conn → result ≡ (if queues.is_grantable hs xs conn then Answer.Granted else Answer.NotYet) }
         ensures limits { IsSameLimits self.new self.old }
     {
         claim_all(&mut self.places, conn)

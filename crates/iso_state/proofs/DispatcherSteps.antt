@@ -15,7 +15,8 @@ use Rattle.iso_locklist.specs.Places.{IsSameLimits, Ledger}
 use Rattle.iso_queue.specs.Queues.{is_waiting, unqueued}
 use Rattle.iso_history.specs.declared.entry.Act.TheVariants.{Dispatch, Expire}
 use Rattle.iso_state.specs.Changes.{seated}
-use Rattle.iso_state.specs.Stands.{Content, IsDeskOf, LocksAre, Stands}
+use Rattle.iso_locklist.specs.Holding.{LocksAre}
+use Rattle.iso_state.specs.Stands.{Content, IsDeskOf, Stands}
 use Rattle.iso_state.proofs.Phases.{at_conn-other, at_conn-same, dispatch-at, dispatch-others}
 use Rattle.iso_state.proofs.Seats.{conn-is, is-open, seat-stands}
 use Rattle.iso_state.proofs.Waits.{gone-other, gone-own}
@@ -65,7 +66,7 @@ expires-others w c d ne =
 pub expire-stands : (p : Content) (l : Ledger) (line : ℕ) (c : Conn) (desk : Desk) → Stands p → IsSameLimits l p.locks → c.0 < length p.head.conns
     → (world p.head p.history).pace.finished ≡ false → phase (world p.head p.history) c ≡ Phase.Waiting
     → IsTrue (is_quiet p.head (world p.head p.history)) → IsTrue (may_take p.head (world p.head p.history))
-    → LocksAre (world p.head p.history).holds (unqueued c (world p.head p.history).waits) l.places → IsDeskOf (world p.head p.history) c desk
+    → LocksAre (world p.head p.history).holds (unqueued c (world p.head p.history).waits) l → IsDeskOf (world p.head p.history) c desk
     → Stands (seated p l c (record desk { phase = Rolling; doom = 68 }) (by_dispatcher (Expire line c true)))
 expire-stands p l line c desk s same lt free waits quiet take are is =
     seat-stands p l c (record desk { phase = Rolling; doom = 68 }) (by_dispatcher (Expire line c true)) s same

@@ -21,7 +21,8 @@ use Rattle.iso_state.proofs.Seats.{conn-is, is-open, seat-stands}
 use Rattle.iso_state.proofs.Shown.{tables-settled_by}
 use Rattle.iso_state.proofs.Waits.{gone-other, gone-own}
 use Rattle.iso_state.specs.Changes.{seated}
-use Rattle.iso_state.specs.Stands.{Content, IsDeskOf, LocksAre, Stands}
+use Rattle.iso_locklist.specs.Holding.{LocksAre}
+use Rattle.iso_state.specs.Stands.{Content, IsDeskOf, Stands}
 
 rests-by : (e c d v s : Bool) → phase_of e c d v s ≡ Running → phase_of e c d false true ≡ Idle
 rests-by true c d v s h = cc
@@ -46,13 +47,13 @@ shut-others w c d ne =
 
 pub commit-stands : (p : Content) (l : Ledger) (c : Conn) (desk : Desk) → Stands p → IsSameLimits l p.locks
     → (world p.head p.history).pace.finished ≡ false → c.0 < length p.head.conns → Runs (world p.head p.history) c
-    → LocksAre (dropped c (world p.head p.history).holds) (unqueued c (world p.head p.history).waits) l.places
+    → LocksAre (dropped c (world p.head p.history).holds) (unqueued c (world p.head p.history).waits) l
     → IsDeskOf (world p.head p.history) c desk → Stands (seated p l c (record desk { phase = Idle }) (by_agent c Commit))
 commit-stands p l c desk s same free lt runs are is =
     seat-stands p l c (record desk { phase = Idle }) (by_agent c Commit) s same
     (record {
       shows = tables-settled_by (unit_of (world p.head p.history) c) (world p.head p.history).tables;
-      locks = subst (λ (hs : List Hold). LocksAre hs (unqueued c (world p.head p.history).waits) l.places) (all_dropped c None
+      locks = subst (λ (hs : List Hold). LocksAre hs (unqueued c (world p.head p.history).waits) l) (all_dropped c None
           (world p.head p.history).holds) are;
     })
     (record {

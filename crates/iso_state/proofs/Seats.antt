@@ -15,12 +15,13 @@ use Rattle.iso_history.specs.Versions.{present}
 use Rattle.iso_history.specs.World.{World}
 use Rattle.iso_history.specs.declared.entry.Entry.{Entry}
 use Rattle.iso_state.specs.Changes.{noted, seated}
-use Rattle.iso_state.specs.Stands.{AreOf, Content, DesksStand, IsDeskOf, IsLimitedBy, LocksAre, Stands, desk_at, no_desk}
+use Rattle.iso_locklist.specs.Holding.{LocksAre}
+use Rattle.iso_state.specs.Stands.{AreOf, Content, DesksStand, IsDeskOf, IsLimitedBy, Stands, desk_at, no_desk}
 
 -- the entry leaves what the tables show, and the lock list is that of the world after it
 pub record Locked (head : Head) (w : World) (l : Ledger) (e : Entry) : Type 0 where
   pub shows : map (map present) (after head w e).tables ≡ map (map present) w.tables
-  pub locks : LocksAre (after head w e).holds (after head w e).waits l.places
+  pub locks : LocksAre (after head w e).holds (after head w e).waits l
 
 -- the entry changes at most the desk of one connection, which is then this one
 pub record Moves (head : Head) (w : World) (c : Conn) (desk : Desk) (e : Entry) : Type 0 where

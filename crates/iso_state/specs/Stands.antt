@@ -9,11 +9,8 @@ use Rattle.iso_types.specs.declared.head.Isolation.TheVariants.{Cs}
 use Rattle.iso_types.specs.declared.value.Conn.{Conn}
 use Rattle.iso_types.specs.declared.value.TableId.{TableId}
 use Rattle.iso_types.specs.declared.value.Value.{Value}
-use Rattle.iso_queue.specs.Locks.{Hold}
-use Rattle.iso_queue.specs.Queues.{Wait}
-use Rattle.iso_locklist.specs.Lists.{HoldsAlike, WaitsAlike, holds_in, waits_in}
+use Rattle.iso_locklist.specs.Holding.{LocksAre}
 use Rattle.iso_locklist.specs.Places.{Ledger}
-use Rattle.iso_locklist.specs.declared.places.Place.{Place}
 use Rattle.iso_history.specs.declared.entry.Entry.{Entry}
 use Rattle.iso_history.specs.After.{world}
 use Rattle.iso_history.specs.Legal.{Ground}
@@ -56,11 +53,6 @@ DesksStand desks w = (c : Conn) → c.0 < length desks → IsDeskOf w c (desk_at
 abbrev pub RowsFit : Head → List (List (List Value)) → Type 0
 RowsFit head tables = (t : TableId) → list_all (row_fits head t) (slice_index_or tables t.0 []) ≡ true
 
--- the lock list has of each name these holds and these waits, in the same order
-pub record LocksAre (hs : List Hold) (xs : List Wait) (places : List Place) : Type 0 where
-  pub holds : HoldsAlike (holds_in places) hs
-  pub waits : WaitsAlike (waits_in places) xs
-
 -- its limits, and the tables of the indexes, are the head's
 pub record IsLimitedBy (head : Head) (l : Ledger) : Type 0 where
   pub share : l.share ≡ lock_share head.config
@@ -70,7 +62,7 @@ pub record IsLimitedBy (head : Head) (l : Ledger) : Type 0 where
 -- the content is that of this world: each slot shows its present row
 pub record AreOf (w : World) (p : Content) : Type 0 where
   pub tables : map (map present) w.tables ≡ map (map Some) p.tables
-  pub locks : LocksAre w.holds w.waits p.locks.places
+  pub locks : LocksAre w.holds w.waits p.locks
   pub desks : DesksStand p.desks w
 
 -- the content stands for its history

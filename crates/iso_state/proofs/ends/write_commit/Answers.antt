@@ -1,6 +1,6 @@
 use Rattle.iso_state.specs.Stands.{content_of, world_of}
 use Rattle.iso_state.proofs.EndSteps.{commit-stands}
-use Rattle.iso_state.proofs.LockWrites.{dropped-are}
+use Rattle.iso_queue.specs.Locks.{dropped}
 use Rattle.iso_state.proofs.Seats.{limits-after, own-desk}
 use Rattle.iso_state.proofs.ends.write_commit.Goals as goal
 
@@ -13,6 +13,6 @@ returns-clause-stands c =
     (commit-stands (content_of p) l c.args.conn c.desk_of.result c.requires.stands
     (limits-after p.locks mid l c.release_all.ensures.limits c.cancel.ensures.limits)
     c.requires.open c.requires.conn c.requires.runs
-    (dropped-are (world_of p).holds (world_of p).waits p.locks.places mid.places l.places c.args.conn c.requires.stands.parts.locks
-    c.release_all.ensures.holds c.release_all.ensures.waits c.cancel.ensures.holds c.cancel.ensures.waits)
+    (c.cancel.ensures.lists (dropped c.args.conn (world_of p).holds) (world_of p).waits
+    (c.release_all.ensures.lists (world_of p).holds (world_of p).waits c.requires.stands.parts.locks))
     (own-desk (content_of p) c.args.conn c.desk_of.result c.requires.stands c.requires.conn c.desk_of.ensures))
