@@ -31,14 +31,15 @@ use Rattle.iso_types.specs.declared.value.TableId.{TableId}
 use Rattle.iso_state.proofs.Seats.{conn-is, is-open, note-stands, seat-stands}
 use Rattle.iso_state.proofs.Waits.{gone-other, gone-own, phase-with}
 use Rattle.iso_state.specs.Changes.{noted, seated}
-use Rattle.iso_state.specs.Stands.{Content, IsDeskOf, LocksAre, Stands}
+use Rattle.iso_locklist.specs.Holding.{LocksAre}
+use Rattle.iso_state.specs.Stands.{Content, IsDeskOf, Stands}
 
 pub free-stands : (p : Content) (l : Ledger) (c : Conn) (t : TableId) (r : Rid) → Stands p → IsSameLimits l p.locks
     → (world p.head p.history).pace.finished ≡ false → c.0 < length p.head.conns → Runs (world p.head p.history) c
     → (world p.head p.history).last c ≡ Looked t r → IsTrue (is_fresh_on (world p.head p.history) c (Row t r))
     → is_full p.head (world p.head p.history) (by_agent c (Free t r)) ≡ false
     → LocksAre (freed c (Row t r) (without_briefs (world p.head p.history).holds c (settled c (Some (Row t r)) (world p.head p.history).holds)))
-    (world p.head p.history).waits l.places
+    (world p.head p.history).waits l
     → Stands (noted p l (by_agent c (Free t r)))
 free-stands p l c t r s same free lt runs looked fresh room are =
     let hs = (world p.head p.history).holds in
@@ -46,7 +47,7 @@ free-stands p l c t r s same free lt runs looked fresh room are =
     ≡ without_briefs hs c (freed c (Row t r) (settled c (Some (Row t r)) hs)) =
     swap (λ h. not (is_hold_of c (Row t r) h)) (stays_after hs c) (settled c (Some (Row t r)) hs) in
     note-stands p l (by_agent c (Free t r)) s same
-    (record { shows = refl; locks = subst (λ (gs : List Hold). LocksAre gs (world p.head p.history).waits l.places) order are })
+    (record { shows = refl; locks = subst (λ (gs : List Hold). LocksAre gs (world p.head p.history).waits l) order are })
     (λ d x is. record { phase = is.phase; may_wait = is.may_wait; doom = is.doom })
     (is-open (world p.head p.history) free, ap not room, (conn-is p.head c lt, (runs, looked, fresh)))
 
@@ -116,7 +117,7 @@ pub claim-stands : (p : Content) (l : Ledger) (c : Conn) (desk : Desk) → Stand
     → is_grantable (world p.head p.history).holds (world p.head p.history).waits c ≡ true
     → is_full p.head (world p.head p.history) (by_agent c Claim) ≡ false
     → LocksAre (claimed_holds (settled c None (world p.head p.history).holds) (world p.head p.history).waits c)
-    (claimed_waits (settled c None (world p.head p.history).holds) (world p.head p.history).waits c) l.places
+    (claimed_waits (settled c None (world p.head p.history).holds) (world p.head p.history).waits c) l
     → IsDeskOf (world p.head p.history) c desk → Stands (seated p l c (record desk { phase = Running }) (by_agent c Claim))
 unfolding WaitersBusy
 claim-stands p l c desk s same facts free lt waits ready room are is =
@@ -129,9 +130,9 @@ claim-stands p l c desk s same facts free lt waits ready room are is =
     seat-stands p l c (record desk { phase = Running }) (by_agent c Claim) s same
     (record {
       shows = refl;
-      locks = subst (λ (hs : List Hold). LocksAre hs (unqueued c (world p.head p.history).waits) l.places) (sym holds)
+      locks = subst (λ (hs : List Hold). LocksAre hs (unqueued c (world p.head p.history).waits) l) (sym holds)
           (subst (λ (ws : List Wait). LocksAre (claimed_holds (settled c None (world p.head p.history).holds)
-          (world p.head p.history).waits c) ws l.places) gone are);
+          (world p.head p.history).waits c) ws l) gone are);
     })
     (record {
       at = record {

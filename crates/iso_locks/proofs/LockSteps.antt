@@ -34,7 +34,8 @@ use Rattle.iso_state.proofs.Seats.{conn-is, is-open, note-stands, seat-stands}
 use Rattle.iso_state.proofs.Waits.{phase-with, queues-at, queues-others, rolls-at}
 use Rattle.iso_state.specs.Changes.{noted, seated}
 use Rattle.iso_locks.specs.Answers.{asked_act}
-use Rattle.iso_state.specs.Stands.{Content, IsDeskOf, LocksAre, Stands}
+use Rattle.iso_locklist.specs.Holding.{LocksAre}
+use Rattle.iso_state.specs.Stands.{Content, IsDeskOf, Stands}
 
 -- room for an entry, in content that is the same
 pub room-moves : (p q : Content) (c : Conn) (n : Name) (m : Mode) → q ≡ p → (o : Outcome) → o ≡ request q.head (world q.head q.history) c n m
@@ -92,7 +93,7 @@ module _ (p : Content) (l : Ledger) (c : Conn) (n : Name) (m : Mode) (s : Stands
   pub granted-stands : request p.head (world p.head p.history) c n m ≡ Gives Got.Granted
       → is_full p.head (world p.head p.history) (by_agent c (Lock n m Kept Asked Got.Granted)) ≡ false
       → LocksAre (without_briefs (world p.head p.history).holds c (placed p.head (settled c None (world p.head p.history).holds) c (asked_for n m Kept)))
-      (world p.head p.history).waits l.places
+      (world p.head p.history).waits l
       → Stands (noted p l (by_agent c (Lock n m Kept Asked Got.Granted)))
   granted-stands outcome room are =
       note-stands p l (by_agent c (Lock n m Kept Asked Got.Granted)) s same
@@ -104,7 +105,7 @@ module _ (p : Content) (l : Ledger) (c : Conn) (n : Name) (m : Mode) (s : Stands
   pub queued-stands : (to : Mode) (desk : Desk) → request p.head (world p.head p.history) c n m ≡ Gives (Got.Queued to)
       → is_full p.head (world p.head p.history) (by_agent c (Lock n m Kept Asked (Got.Queued to))) ≡ false
       → LocksAre (without_briefs (world p.head p.history).holds c (settled c None (world p.head p.history).holds))
-      (queued (world p.head p.history).holds (record { name = n; conn = c; target = to; term = Kept }) (world p.head p.history).waits) l.places
+      (queued (world p.head p.history).holds (record { name = n; conn = c; target = to; term = Kept }) (world p.head p.history).waits) l
       → IsDeskOf (world p.head p.history) c desk
       → Stands (seated p l c (record desk { phase = Phase.Waiting }) (by_agent c (Lock n m Kept Asked (Got.Queued to))))
   queued-stands to desk outcome room are is =
@@ -128,7 +129,7 @@ module _ (p : Content) (l : Ledger) (c : Conn) (n : Name) (m : Mode) (s : Stands
   -- it has to roll back
   pub timed-out-stands : (desk : Desk) → request p.head (world p.head p.history) c n m ≡ Gives Got.TimedOut
       → is_full p.head (world p.head p.history) (by_agent c (Lock n m Kept Asked Got.TimedOut)) ≡ false
-      → LocksAre (without_briefs (world p.head p.history).holds c (settled c None (world p.head p.history).holds)) (world p.head p.history).waits l.places
+      → LocksAre (without_briefs (world p.head p.history).holds c (settled c None (world p.head p.history).holds)) (world p.head p.history).waits l
       → IsDeskOf (world p.head p.history) c desk
       → Stands (seated p l c (record desk { phase = Rolling; doom = 68 }) (by_agent c (Lock n m Kept Asked Got.TimedOut)))
   timed-out-stands desk outcome room are is =
@@ -153,7 +154,7 @@ module _ (p : Content) (l : Ledger) (c : Conn) (n : Name) (m : Mode) (s : Stands
   -- it is refused
   pub refused-stands : request p.head (world p.head p.history) c n m ≡ Limit → prey p.head (world p.head p.history).holds c ≡ None
       → is_full p.head (world p.head p.history) (by_agent c (Refused (minus 912))) ≡ false
-      → LocksAre (without_briefs (world p.head p.history).holds c (settled c None (world p.head p.history).holds)) (world p.head p.history).waits l.places
+      → LocksAre (without_briefs (world p.head p.history).holds c (settled c None (world p.head p.history).holds)) (world p.head p.history).waits l
       → Stands (noted p l (by_agent c (Refused (minus 912))))
   refused-stands outcome none room are =
       note-stands p l (by_agent c (Refused (minus 912))) s same

@@ -29,7 +29,8 @@ use Rattle.iso_types.specs.declared.value.TableId.{TableId}
 use Rattle.iso_state.proofs.LockWrites.{spare-of}
 use Rattle.iso_state.proofs.Seats.{conn-is, is-open, note-stands}
 use Rattle.iso_state.specs.Changes.{noted}
-use Rattle.iso_state.specs.Stands.{Content, LocksAre, Stands}
+use Rattle.iso_locklist.specs.Holding.{LocksAre}
+use Rattle.iso_state.specs.Stands.{Content, Stands}
 
 -- a want that places a lock asks for its mode
 asks-placed : (head : Head) (w : World) (c : Conn) (t : TableId) (r : Rid) (want : Want) (m : Mode × Term) → placed_by_want want ≡ Some m
@@ -66,7 +67,7 @@ pub look-stands : (p : Content) (l : Ledger) (c : Conn) (t : TableId) (r : Rid) 
     → is_full p.head (world p.head p.history) (by_agent c (Look t r want Got.Granted)) ≡ false
     → LocksAre (without_briefs (world p.head p.history).holds c
     (placed p.head (settled c (spare-of spared (Row t r)) (world p.head p.history).holds) c (asked_for (Row t r) m.0 m.1)))
-    (world p.head p.history).waits l.places
+    (world p.head p.history).waits l
     → Stands (noted p l (by_agent c (Look t r want Got.Granted)))
 look-stands p l c t r want m spared s same free lt runs may live asks spare outcome room are =
     let hs = (world p.head p.history).holds in
@@ -75,7 +76,7 @@ look-stands p l c t r want m spared s same free lt runs may live asks spare outc
     ap (without_briefs hs c) (sym (looked-is p.head (world p.head p.history) c t r want m live asks (settled c (spare-of spared (Row t r)) hs))
     ∙ ap (λ (o : Option _). all_placed p.head (settled c o hs) c (looked (world p.head p.history) t r want)) spare) in
     note-stands p l (by_agent c (Look t r want Got.Granted)) s same
-    (record { shows = refl; locks = subst (λ (gs : List Hold). LocksAre gs (world p.head p.history).waits l.places) now are })
+    (record { shows = refl; locks = subst (λ (gs : List Hold). LocksAre gs (world p.head p.history).waits l) now are })
     (λ d x is. record { phase = is.phase; may_wait = is.may_wait; doom = is.doom }) (
       is-open (world p.head p.history) free,
       ap not room,

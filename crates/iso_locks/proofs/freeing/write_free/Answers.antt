@@ -2,7 +2,6 @@ use Rattle.std.proofs.Common.{Some}
 use Rattle.iso_queue.specs.Locks.{settled, without_briefs}
 use Rattle.iso_types.specs.declared.value.Name.TheVariants.{Row}
 use Rattle.iso_state.specs.Stands.{content_of, world_of}
-use Rattle.iso_state.proofs.LockWrites.{freed-are, settled-are}
 use Rattle.iso_locks.proofs.ClaimSteps.{free-stands}
 use Rattle.iso_state.proofs.Seats.{limits-after}
 use Rattle.iso_locks.proofs.freeing.write_free.Goals as goal
@@ -17,7 +16,5 @@ returns-clause-stands c =
     (free-stands (content_of p) l c.args.conn c.args.table c.args.rid c.requires.stands
     (limits-after p.locks c.settle.new.self l c.settle.ensures.limits c.release.ensures.limits)
     c.requires.open c.requires.conn c.requires.runs c.requires.looked c.requires.fresh c.requires.room
-    (freed-are (without_briefs hs c.args.conn (settled c.args.conn (Some n) hs)) (world_of p).waits c.settle.new.self.places l.places c.args.conn n
-    (settled-are hs (world_of p).waits p.locks.places c.settle.new.self.places c.args.conn
-    (Some n) c.requires.stands.parts.locks c.settle.ensures.holds c.settle.ensures.waits)
-    c.release.ensures.holds c.release.ensures.waits))
+    (c.release.ensures.lists (without_briefs hs c.args.conn (settled c.args.conn (Some n) hs)) (world_of p).waits
+    (c.settle.ensures.lists hs (world_of p).waits c.requires.stands.parts.locks)))

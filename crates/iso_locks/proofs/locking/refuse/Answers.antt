@@ -1,6 +1,4 @@
-use Rattle.std.proofs.Common.{None}
 use Rattle.iso_state.specs.Stands.{content_of, world_of}
-use Rattle.iso_state.proofs.LockWrites.{settled-are}
 use Rattle.iso_locks.proofs.LockSteps.{refused-stands}
 use Rattle.iso_locks.proofs.locking.refuse.Goals as goal
 
@@ -11,4 +9,4 @@ returns-clause-stands c =
     rw c.note.ensures.wrote
     (refused-stands (content_of p) l c.args.conn c.args.name.now c.args.mode c.requires.stands c.settle.ensures.limits
     c.requires.open c.requires.conn c.requires.runs c.requires.may c.requires.outcome c.requires.none c.requires.room
-    (settled-are (world_of p).holds (world_of p).waits p.locks.places l.places c.args.conn None c.requires.stands.parts.locks c.settle.ensures.holds c.settle.ensures.waits))
+    (c.settle.ensures.lists (world_of p).holds (world_of p).waits c.requires.stands.parts.locks))

@@ -1,9 +1,8 @@
-use Rattle.std.proofs.Common.{sym, subst, None}
+use Rattle.std.proofs.Common.{sym, subst}
 use Rattle.iso_history.specs.declared.entry.Entry.{Entry}
 use Rattle.iso_types.specs.declared.desk.Phase.TheVariants.{Rolling}
 use Rattle.iso_state.specs.Changes.{seated}
 use Rattle.iso_state.specs.Stands.{Stands, content_of, world_of}
-use Rattle.iso_state.proofs.LockWrites.{settled-are}
 use Rattle.iso_state.proofs.Seats.{own-desk}
 use Rattle.iso_locks.proofs.LockSteps.{timed-out-stands}
 use Rattle.iso_locks.proofs.locking.time_out.Goals as goal
@@ -17,5 +16,5 @@ returns-clause-stands c =
     (subst (λ (e : Entry). Stands (seated (content_of p) l c.args.conn desk e)) (sym c.asked.ensures)
     (timed-out-stands (content_of p) l c.args.conn c.args.name.now c.args.mode c.requires.stands c.settle.ensures.limits
     c.requires.open c.requires.conn c.requires.runs c.requires.may c.desk_of.result c.requires.outcome c.requires.room
-    (settled-are (world_of p).holds (world_of p).waits p.locks.places l.places c.args.conn None c.requires.stands.parts.locks c.settle.ensures.holds c.settle.ensures.waits)
+    (c.settle.ensures.lists (world_of p).holds (world_of p).waits c.requires.stands.parts.locks)
     (own-desk (content_of p) c.args.conn c.desk_of.result c.requires.stands c.requires.conn c.desk_of.ensures)))

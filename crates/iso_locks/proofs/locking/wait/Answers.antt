@@ -1,4 +1,4 @@
-use Rattle.std.proofs.Common.{◌∙◌, ap, sym, subst, None}
+use Rattle.std.proofs.Common.{◌∙◌, ap, sym, subst}
 use Rattle.iso_history.specs.Makers.{by_agent}
 use Rattle.iso_history.specs.Requests.Outcome.{Gives}
 use Rattle.iso_history.specs.declared.entry.Entry.{Entry}
@@ -8,7 +8,6 @@ use Rattle.iso_queue.specs.Queues.{queued}
 use Rattle.iso_types.specs.declared.desk.Phase.{Phase}
 use Rattle.iso_state.specs.Changes.{seated}
 use Rattle.iso_state.specs.Stands.{Content, Stands, content_of, desk_at, world_of}
-use Rattle.iso_state.proofs.LockWrites.{settled-are}
 use Rattle.iso_locks.specs.Answers.{asked_act}
 use Rattle.iso_state.proofs.Seats.{limits-after, own-desk}
 use Rattle.iso_locks.proofs.LockSteps.{queued-stands}
@@ -26,8 +25,7 @@ returns-clause-stands c =
     (queued-stands (content_of p) l c.args.conn c.args.name.now c.args.mode c.requires.stands
     (limits-after p.locks c.enqueue.new.parts.locks l c.in_ok-enqueue.ensures.limits c.settle.ensures.limits)
     c.requires.open c.requires.conn c.requires.runs c.requires.may c.args.to c.desk_of.result c.requires.outcome c.requires.room
-    (settled-are (world_of p).holds (queued (world_of p).holds (record { name = c.args.name.now; conn = c.args.conn; target = c.args.to; term = Kept })
-    (world_of p).waits)
-    c.enqueue.new.parts.locks.places l.places c.args.conn None c.in_ok-enqueue.ensures.ok c.settle.ensures.holds c.settle.ensures.waits)
+    (c.settle.ensures.lists (world_of p).holds (queued (world_of p).holds (record { name = c.args.name.now; conn = c.args.conn; target = c.args.to; term = Kept })
+    (world_of p).waits) c.in_ok-enqueue.ensures.ok)
     (own-desk (content_of p) c.args.conn c.desk_of.result c.requires.stands c.requires.conn
     (c.desk_of.ensures ∙ ap (λ (q : Content). desk_at q.desks c.args.conn) c.in_ok-enqueue.ensures.content)))))
