@@ -129,10 +129,7 @@ const BROKEN: [(&[u8], Option<SqlFault>); 15] = [
         b"SELECT * FROM T WHERE S = 'A\nB' WITH UR",
         Some(SqlFault::Syntax(27)),
     ),
-    (
-        b"UPDATE T SET S = 'A''\r'",
-        Some(SqlFault::Syntax(18)),
-    ),
+    (b"UPDATE T SET S = 'A''\r'", Some(SqlFault::Syntax(18))),
     (
         b"SELECT * FROM T WHERE S = 'A'\r WITH UR",
         Some(SqlFault::Syntax(30)),
