@@ -19,3 +19,4 @@ pub mod Staged
 pub mod Classes
 pub mod Writes
 pub mod Replies
+pub mod Fitting
