@@ -23,3 +23,4 @@ pub mod ProgressHolders
 pub mod ProgressOver
 pub mod ProgressEdges
 pub mod Progress
+pub mod Fitting
