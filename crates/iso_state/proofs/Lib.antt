@@ -6,6 +6,7 @@ pub mod FirstParts
 pub mod LockReads
 pub mod LockWrites
 pub mod Waits
+pub mod Shuts
 pub mod Others
 pub mod Joins
 pub mod Plain
