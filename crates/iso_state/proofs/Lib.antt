@@ -2,6 +2,7 @@ pub mod Phases
 pub mod Desks
 pub mod Steps
 pub mod ByKind
+pub mod Commits
 pub mod FirstParts
 pub mod LockReads
 pub mod LockWrites
