@@ -17,6 +17,7 @@ use Rattle.iso_history.specs.declared.entry.Act.{Act}
 use Rattle.iso_history.specs.declared.entry.Act.TheVariants.{Commit, Dispatch, Expire, Reply, Rollback, Set}
 use Rattle.iso_types.specs.Ids.{conn_eq}
 use Rattle.iso_types.specs.declared.desk.Desk.{Desk}
+use Rattle.iso_types.specs.declared.desk.Phase.{Phase}
 use Rattle.iso_types.specs.declared.head.Head.{Head}
 use Rattle.iso_types.specs.declared.value.Conn.{Conn}
 use Rattle.iso_state.specs.Changes.{unclaimed}
@@ -41,6 +42,20 @@ seat-kept w v c d b k e is = record {
   doom = is.doom ∙ ap (λ (o : Option ℕ). unwrap_or o 0) (sym k.doom_same);
   start = is.start ∙ sym k.floor_same;
   claimed = e;
+}
+
+-- the desk with another phase, doom and claim
+pub seat-as : (w v : World) (c : Conn) (d : Desk) (x : Phase) (r : ℕ) (b : Bool) → x ≡ phase v c → v.line c ≡ w.line c → v.setting c ≡ w.setting c
+    → r ≡ unwrap_or (v.doom c) 0 → v.floor c ≡ w.floor c → b ≡ is_claimed (v.last c) → IsDeskOf w c d
+    → IsDeskOf v c (record d { phase = x; doom = r; claimed = b })
+seat-as w v c d x r b e line setting doom floor claimed is = record {
+  phase = e;
+  line = subst (λ (o : Option ℕ). IfSome o (λ n. d.line ≡ n)) (sym line) is.line;
+  isolation = is.isolation ∙ ap (λ (s : Setting). s.level) (sym setting);
+  may_wait = is.may_wait ∙ ap (λ (s : Setting). s.may_wait) (sym setting);
+  doom = doom;
+  start = is.start ∙ sym floor;
+  claimed = claimed;
 }
 
 -- another connection's desk, where its claim is the same too

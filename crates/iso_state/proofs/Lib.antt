@@ -1,9 +1,12 @@
 pub mod Phases
 pub mod Desks
 pub mod Steps
+pub mod ByKind
+pub mod Commits
 pub mod FirstParts
 pub mod LockReads
 pub mod LockWrites
 pub mod Waits
+pub mod Shuts
 pub mod News
 pub mod FactsAlong

@@ -14,12 +14,15 @@ pub record IsReady (p : Parts) (more : ℕ) : Type 0 where
   pub fits : is_past (content_of p) more ≡ false
   pub spare : p.reserved + 3 ≤ p.history.spare
 
+-- what a call leaves of the history's room and of the log's: it takes this much of the first, and nothing of the second
+pub record Spares (more h l new_h new_l : ℕ) : Type 0 where
+  pub history : h ≤ new_h + more
+  pub log : l ≤ new_l
+
 -- the room is as it was, or more
-pub record KeepsRoom (old new : Parts) : Type 0 where
-  pub history : old.history.spare ≤ new.history.spare
-  pub log : old.log.spare ≤ new.log.spare
+abbrev pub KeepsRoom : Parts → Parts → Type 0
+KeepsRoom old new = Spares 0 old.history.spare old.log.spare new.history.spare new.log.spare
 
 -- one entry is added to the history, and no record to the log
-pub record Spends (old new : Parts) : Type 0 where
-  pub history : old.history.spare ≤ new.history.spare + 1
-  pub log : old.log.spare ≤ new.log.spare
+abbrev pub Spends : Parts → Parts → Type 0
+Spends old new = Spares 1 old.history.spare old.log.spare new.history.spare new.log.spare

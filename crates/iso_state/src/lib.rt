@@ -1,11 +1,13 @@
 //! The state, and what its steps have in common.
 #![tactic(auto)]
 
+mod chain;
 mod changes;
 mod locks;
 mod parts;
 mod state;
 
+pub use chain::write_commit;
 pub use changes::{desk_of, enter, make_room, move_to, note};
 pub use locks::{
     Judged, can_claim, covered, enqueue, grants, hold, is_fresh_on, is_limited, judge, place, take,

@@ -158,6 +158,7 @@ pub fn place(
     ensures ok { OnOk result (LocksAre (placed parts.old.head (world_of parts.old).holds conn (asked_for name.now mode term)) (world_of parts.old).waits parts.new.locks) }
     ensures limits { IsSameLimits parts.new.locks parts.old.locks }
     ensures err { OnErr result (content_of parts.new ≡ content_of parts.old) }
+    ensures stands { OnErr result (StandsFor parts.new) }
     ensures fault { result ≢ Err StepFault.HistoryFull }
 {
     if covered(parts, conn, name, mode) {
@@ -187,6 +188,7 @@ pub fn enqueue(
     ensures ok { OnOk result (LocksAre (world_of parts.old).holds (queued (world_of parts.old).holds (record { name = name.now; conn = conn; target = to; term = term }) (world_of parts.old).waits) parts.new.locks) }
     ensures limits { IsSameLimits parts.new.locks parts.old.locks }
     ensures err { OnErr result (content_of parts.new ≡ content_of parts.old) }
+    ensures stands { OnErr result (StandsFor parts.new) }
     ensures fault { result ≢ Err StepFault.HistoryFull }
 {
     match parts.locks.request(conn, *name, mode, term) {
@@ -206,6 +208,7 @@ pub fn take_kept(parts: &mut Parts, conn: Conn, name: &Name, mode: Mode) -> Resu
     ensures ok { OnOk result (LocksAre (without_briefs (placed parts.old.head (world_of parts.old).holds conn (asked_for name.now mode Terms.Kept)) conn (settled conn None (placed parts.old.head (world_of parts.old).holds conn (asked_for name.now mode Terms.Kept)))) (world_of parts.old).waits parts.new.locks) }
     ensures limits { IsSameLimits parts.new.locks parts.old.locks }
     ensures err { OnErr result (content_of parts.new ≡ content_of parts.old) }
+    ensures stands { OnErr result (StandsFor parts.new) }
     ensures fault { result ≢ Err StepFault.HistoryFull }
 {
     place(parts, conn, name, mode, Term::Kept)?;
@@ -230,6 +233,7 @@ fn take_spared(
     ensures ok { OnOk result (LocksAre (without_briefs (placed parts.old.head (world_of parts.old).holds conn (asked_for name.now mode term)) conn (settled conn (Some name.now) (placed parts.old.head (world_of parts.old).holds conn (asked_for name.now mode term)))) (world_of parts.old).waits parts.new.locks) }
     ensures limits { IsSameLimits parts.new.locks parts.old.locks }
     ensures err { OnErr result (content_of parts.new ≡ content_of parts.old) }
+    ensures stands { OnErr result (StandsFor parts.new) }
     ensures fault { result ≢ Err StepFault.HistoryFull }
 {
     place(parts, conn, name, mode, term)?;
@@ -282,6 +286,7 @@ pub fn take(
     ensures ok { OnOk result (LocksAre (without_briefs (world_of parts.old).holds conn (placed parts.old.head (settled conn (if spared then Some name.now else None) (world_of parts.old).holds) conn (asked_for name.now mode term))) (world_of parts.old).waits parts.new.locks) }
     ensures limits { IsSameLimits parts.new.locks parts.old.locks }
     ensures err { OnErr result (content_of parts.new ≡ content_of parts.old) }
+    ensures stands { OnErr result (StandsFor parts.new) }
     ensures fault { result ≢ Err StepFault.HistoryFull }
 {
     let becomes_kept = becomes_kept(parts, conn, name, spared);
