@@ -27,6 +27,11 @@ taken-within (Some x) (Some y) bytes told c h =
     let l : length told ≡ length bytes + length y = ap length (sym same ∙ c) ∙ length-append bytes y in
     omega (arith, l)
 
+-- an outcome of the bytes that were judged is one of those that were taken
+pub moved : (xs ys : List ℕ) (left : Option (List ℕ)) (status : ℕ) (history : List Entry) (old new : Option (List ℕ)) → xs ≡ ys
+    → IsOutcome xs left status history old new → IsOutcome ys left status history old new
+moved xs ys left status history old new e o = subst (λ b. IsOutcome b left status history old new) e o
+
 -- what was not read is neither judged nor refused
 unjudged : (status : ℕ) → (status ≡ 3) ⊎ (status ≡ 5) → (status ≡ 0) ⊎ (status ≡ 4) → ⊥
 unjudged s (inl a) (inl b) = let q : 3 ≡ 0 = sym a ∙ b in omega arith

@@ -1,5 +1,6 @@
 -- The entries that end a statement, and those that end the run.
-use Rattle.std.proofs.Common.{◌≡◌, ℕ, Bool, true, false, List, [], ◌∷◌, ◌++◌, refl, sym, subst, ap, ◌∙◌, Option, Some, None, is_some, IsTrue, length, arith, ℤ, ◌≤◌}
+use Rattle.std.proofs.Common.{◌≡◌, ℕ, Bool, true, false, List, [], ◌∷◌, ◌++◌, refl, sym, subst, ap, ◌∙◌, Option, Some, None, is_some, IsTrue, length, arith, ℤ, ◌≤◌, Result, Ok, Err, OnOk, OnErr}
+use Rattle.std.specs.Prelude.{is_ok}
 use Rattle.std.proofs.lemmas.Bool.{ltb-true}
 use Rattle.iso_first_conduct.specs.Conduct.{Conduct}
 use Rattle.iso_first_conduct.specs.Legal.{IsFinished, IsLegal}
@@ -177,3 +178,9 @@ unfinished head es open_ f =
     let after-it : (world head (f.0 ++ by_dispatcher Finish ∷ [])).pace.finished ≡ true = rw (world-snoc head f.0 (by_dispatcher Finish)) refl in
     let is : (world head es).pace.finished ≡ true = subst (λ l. (world head l).pace.finished ≡ true) (sym f.1) after-it in
     absurd (let q : true ≡ false = sym is ∙ open_ in cc)
+
+-- an answer that is Ok for a finished history, and Err for an open one, says by its test whether that is finished
+pub says_finished : {A B : Type 0} (r : Result A B) (b : Bool) (head : Head) (es : List Entry) → b ≡ is_ok r → OnOk r (IsFinished es)
+    → OnErr r (IsOpen head es) → (IsTrue b → IsFinished es) × (IsFinished es → IsTrue b)
+says_finished (Ok x) b head es is done open_ = (λ h. done, λ h. is)
+says_finished (Err e) b head es is done open_ = (λ h. let q : true ≡ false = sym h ∙ is in absurd (cc), λ h. absurd (unfinished head es open_ h))

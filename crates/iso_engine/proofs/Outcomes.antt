@@ -32,14 +32,14 @@ untold script status history old b s h = record {
 pub refusal-outcome : (bytes : List ℕ) (n : ℕ) (why : LineCause) (status : ℕ) (history : List Entry) (old new : Option (List ℕ))
     → length bytes ≤ 1048576 → bad bytes n why → IsRefusal n why status history old new → (left : Option (List ℕ)) → IsAtEnd left
     → IsOutcome bytes left status history old new
-refusal-outcome bytes n why status history old new few b (inl r) left end = inl (r.0, refusal_at n why, inr (end, (few, (n, why, b, refl))), r.1, r.2)
+refusal-outcome bytes n why status history old new few b (inl r) left end = inl (r.0, refusal_at n why, inr (end, few, (n, why, b, refl)), r.1, r.2)
 refusal-outcome bytes n why status history old new few b (inr r) left end = inr (inl (inr r.0, r.1, r.2))
 
 -- it is told in this text
 pub refusal-text : (bytes : List ℕ) (n : ℕ) (why : LineCause) (failed : Type 0) (old new : Option (List ℕ))
     → length bytes ≤ 1048576 → bad bytes n why → IsWritten failed old new (refusal_at n why) → (left : Option (List ℕ)) → IsAtEnd left
     → TellsRefusal bytes left failed old new
-refusal-text bytes n why failed old new few b w left end = (refusal_at n why, inr (end, (few, (n, why, b, refl))), w)
+refusal-text bytes n why failed old new few b w left end = (refusal_at n why, inr (end, few, (n, why, b, refl)), w)
 
 -- too many bytes are refused
 pub too_long-outcome : (bytes : List ℕ) (left : Option (List ℕ)) (status : ℕ) (history : List Entry) (old new : Option (List ℕ))

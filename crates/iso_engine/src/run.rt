@@ -121,6 +121,7 @@ fn run_lines(alloc: Global, parts: &mut Parts, lines: &[Line]) -> Result<(), Mem
 /// Runs all lines, and ends the run. A script without a connection has no line.
 fn run_all(alloc: Global, parts: &mut Parts, lines: &[Line]) -> Result<(), Memory>
     requires conns { length parts.old.head.conns ≤ 1 }
+    requires few { length parts.old.head.rows ≤ 1000 }
     requires manned { length parts.old.head.conns ≡ 0 → lines.now ≡ [] }
     requires built { list_all (is_built_line parts.old.head) lines.now ≡ true }
     requires rising { rises_above 0 lines.now ≡ true }
