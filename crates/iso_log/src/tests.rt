@@ -59,6 +59,17 @@ fn has_records(pin: &Pin<Record>, first: u32, last: u32) -> bool {
     })
 }
 
+/// The records from one number to another; None where they are not there, or want of memory.
+fn pinned(log: &Log, first: u32, last: u32) -> Option<Pin<Record>> {
+    if first > last || last >= log.len() {
+        return None;
+    }
+    match log.pin(first, last) {
+        Ok(pin) => Some(pin),
+        Err(_) => None,
+    }
+}
+
 #[test]
 fn logmax_3(rt: HostRuntime) {
     // Records before, the oldest record of an open unit, the debt; whether the next change is past the log.
@@ -92,13 +103,16 @@ fn window_of_8(rt: HostRuntime) {
 fn a_pin_is_read_beside_appends(rt: HostRuntime) {
     let mut log = Log::new(rt.alloc(), &config(1000, 8));
     assert!(rt; fill(&mut log, 600));
-    match log.pin(250, 599) {
-        Ok(pin) => {
+    match pinned(&log, 250, 599) {
+        Some(pin) => {
             let more = &mut log;
-            let (filled, read) =
-                thread::join(&rt, move || fill(more, 300), move || has_records(&pin, 250, 599));
+            let (filled, read) = thread::join(
+                &rt,
+                move || fill(more, 300),
+                move || has_records(&pin, 250, 599),
+            );
             assert!(rt; filled && read && log.len() == 900);
         }
-        Err(_) => assert!(rt; false),
+        None => assert!(rt; false),
     }
 }

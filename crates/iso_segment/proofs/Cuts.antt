@@ -165,9 +165,13 @@ both-kept ss next rest j first last from held tail b =
     let laid = laid-drop 0 ss next j b.laid in
     let len = next-is (first_at ss j next) (drop j ss) next laid in
     let w = b.within in let n = b.ends in let l = b.low in let f = b.begins in
-    rw (b.from, held-is ss held j b.shares, b.copies, length-append (joined (drop j ss)) (take (last - next + 1) rest))
-    (laid, l, omega (arith, n, f), (let size : length (take (last - next + 1) rest) ≡ last - next + 1 = length-take-le (last - next + 1) rest (omega (arith, w)) in
-    omega (arith, size, len, n, f, l)))
+    rw (b.from, held-is ss held j b.shares, b.copies, length-append (joined (drop j ss)) (take (last - next + 1) rest)) (
+      laid,
+      l,
+      omega (arith, n, f),
+      (let size : length (take (last - next + 1) rest) ≡ last - next + 1 = length-take-le (last - next + 1) rest (omega (arith, w)) in
+          omega (arith, size, len, n, f, l)),
+    )
 
 pub both-is : {T : Type 0} (ss : List (Pinned T)) (next : ℕ) (rest : List T) (j first last from : ℕ) (held : List (Pinned T)) (tail : List T)
     → Both ss next rest j first last from held tail

@@ -55,7 +55,7 @@ in-stretch from (x ∷ ss) next rest n (suc k) s is lt at low high =
     let b = first-from (from + length x.items) ss next k is.1 in
     let more : suc k + 1 ≡ suc (k + 1) = omega arith in
     let h = in-stretch (from + length x.items) ss next rest n k s is.1 (omega (arith, lt)) at low
-        (subst (λ (z : ℕ). n < first_at (x ∷ ss) z next) more high) in
+    (subst (λ (z : ℕ). n < first_at (x ∷ ss) z next) more high) in
     let i : n - from ≡ length x.items + (n - (from + length x.items)) = omega (arith, b, low) in
     record {
       is = rw (append_assoc x.items (joined ss) rest, i) (get-right x.items (joined ss ++ rest) (n - (from + length x.items)) ∙ h.is);

@@ -1,8 +1,8 @@
 //! A list that only grows, and stretches of it that are kept by themselves.
 #![tactic(auto)]
 
-mod pin;
 mod parts;
+mod pin;
 mod segment;
 mod store;
 

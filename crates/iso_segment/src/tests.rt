@@ -61,7 +61,14 @@ fn holds(store: &Store<Item>, first: u32, last: u32) -> bool {
 fn pins_of_600_items(rt: HostRuntime) {
     let mut store = Store::new(rt.alloc());
     assert!(rt; fill(&mut store, 600, false));
-    for (first, last) in [(0, 599), (255, 256), (599, 599), (511, 512), (512, 599), (0, 255)] {
+    for (first, last) in [
+        (0, 599),
+        (255, 256),
+        (599, 599),
+        (511, 512),
+        (512, 599),
+        (0, 255),
+    ] {
         assert!(rt; holds(&store, first, last));
     }
 }

@@ -20,7 +20,7 @@ pub returns-clause-value : goal.returns-clause-value
 returns-clause-value g c =
     let s = c.index-segments-place_of.result in
     let h = in-stretch c.args.from c.args.segments.now c.args.next c.args.rest.now c.args.number c.place_of.result s c.requires.laid
-        c.place_of.ensures.within c.index-segments-place_of.is c.place_of.ensures.low c.place_of.ensures.high in
+    c.place_of.ensures.within c.index-segments-place_of.is c.place_of.ensures.low c.place_of.ensures.high in
     c.item.ensures.value ∙ ap (λ k. slice_get s.items (c.args.number - k)) c.first.ensures ∙ sym h.is
 
 pub returns-clause-within : goal.returns-clause-within

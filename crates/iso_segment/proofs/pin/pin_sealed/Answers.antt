@@ -12,7 +12,7 @@ place_of-end-requires-clause-first g c = first-below 0 c.args.segments.now c.arg
 pub shared-requires-clause-order : goal.shared-requires-clause-order
 shared-requires-clause-order g c =
     let o = before c.args.segments.now c.args.next c.place_of-start.result (c.place_of-end.result + 1) c.args.first c.args.last c.requires.laid
-        c.place_of-start.ensures.low c.requires.order c.place_of-end.ensures.high in
+    c.place_of-start.ensures.low c.requires.order c.place_of-end.ensures.high in
     omega (arith, o)
 
 pub invariant_of-result : goal.invariant_of-result

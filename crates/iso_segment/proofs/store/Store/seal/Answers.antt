@@ -9,9 +9,11 @@ invariant_of-self-2 g c =
     let n = c.len-len.ensures in
     let z = c.in_ok-segment.ensures.len in
     let b = c.self.invariant.1 in
-    let s = c.in_ok-segment.segment in
-    (sealed-laid i.segments.items c.add_segment.new.segments.items i.next c.len-len.result s i.rest.items c.self.invariant.0
-    (c.add_segment.ensures ∙ ap (λ l. l ++ s ∷ []) c.reserve.ensures.items) c.in_ok-segment.ensures.ok (n ∙ i.rest.ok.0), omega (arith, n, z, b))
+    let s = c.in_ok-segment.segment in (
+      sealed-laid i.segments.items c.add_segment.new.segments.items i.next c.len-len.result s i.rest.items c.self.invariant.0
+          (c.add_segment.ensures ∙ ap (λ l. l ++ s ∷ []) c.reserve.ensures.items) c.in_ok-segment.ensures.ok (n ∙ i.rest.ok.0),
+      omega (arith, n, z, b),
+    )
 
 pub returns-clause-items : goal.returns-clause-items
 returns-clause-items g c =
