@@ -62,7 +62,8 @@ one-fails p (c ∷ cs) h = decide (one-fails p cs) (p c) refl h where
 none-found : (p : Conn → Bool) (cs : List Conn) → find p cs ≡ None → (c : Conn) → is_among c cs ≡ true → p c ≡ false
 none-found p [] e c on = absurd (both_ways false refl on)
 none-found p (d ∷ ds) e c on = decide (none-found p ds) (p d) refl e where
-  decide : (find p ds ≡ None → (x : Conn) → is_among x ds ≡ true → p x ≡ false) → (b : Bool) → p d ≡ b → (if p d then Some d else find p ds) ≡ None → p c ≡ false
+  decide : (find p ds ≡ None → (x : Conn) → is_among x ds ≡ true → p x ≡ false) → (b : Bool) → p d ≡ b → (if p d then Some d else find p ds) ≡ None
+      → p c ≡ false
   decide ih true t k = absurd (some-none d (rw t at k))
     where
       some-none : (x : Conn) → Some x ≡ None → ⊥
@@ -190,7 +191,9 @@ no-cycle head w e =
 module _ (head : Head) (w : World) (ls : List Line) (live : AreLive head w) (over : EndsOver w ls)
     (off : (c : Conn) → is_among c (conns head) ≡ true → is_able w c ≡ false) (none : cycle_in head w ≡ None) where
   quiet : is_quiet head w ≡ true
-  quiet = and_from (list_all (is_resting w) (conns head)) (is_none (cycle_in head w)) (all-from (is_resting w) (conns head) (λ c on. resting w c (off c on))) (rw none refl)
+  quiet =
+      and_from (list_all (is_resting w) (conns head)) (is_none (cycle_in head w))
+      (all-from (is_resting w) (conns head) (λ c on. resting w c (off c on))) (rw none refl)
 
   -- ---- at the end
 
@@ -206,7 +209,8 @@ module _ (head : Head) (w : World) (ls : List Line) (live : AreLive head w) (ove
   ]
 
   -- so there is none
-  nobody-left : ((c : Conn) → is_among c (conns head) ≡ true → is_phase (phase w c) Idle ≡ false) → (c : Conn) → is_among c (conns head) ≡ true → w.ended c ≡ false → ⊥
+  nobody-left : ((c : Conn) → is_among c (conns head) ≡ true → is_phase (phase w c) Idle ≡ false) → (c : Conn) → is_among c (conns head) ≡ true
+      → w.ended c ≡ false → ⊥
   nobody-left busy c on alive =
       cycle-inside (edge_in head w) (filter (λ d. not (w.ended d)) (conns head)) c (among-kept (λ d. not (w.ended d)) c (conns head) on (rw alive refl))
       inside (no-cycle head w none)
@@ -222,8 +226,9 @@ module _ (head : Head) (w : World) (ls : List Line) (live : AreLive head w) (ove
 
   ending-some : ending_step head w ≡ None → ⊥
   ending-some e =
-      let t : ((if is_quiet head w then option_map Act.Close (least_idle head w) else None) ≡ None) × ((if all_ended head w then Some Act.Finish else None) ≡ None) =
-      or-none _ _ e in
+      let closing : Option Act = if is_quiet head w then option_map Act.Close (least_idle head w) else None in
+      let finishing : Option Act = if all_ended head w then Some Act.Finish else None in
+      let t : (closing ≡ None) × (finishing ≡ None) = or-none closing finishing e in
       let close : option_map Act.Close (least_idle head w) ≡ None = rw quiet at t.0 in
       let idle : least_idle head w ≡ None = map-none Act.Close (least_idle head w) close in
       finish (all_ended head w) refl idle t.1
@@ -305,11 +310,13 @@ module _ (head : Head) (w : World) (ls : List Line) (live : AreLive head w) (ove
       go false o k j = taking-some ls refl o sound k
 
 -- where no agent is able, the dispatcher has an entry
-dispatcher-able : (head : Head) (w : World) (ls : List Line) → AreLive head w → EndsOver w ls → list_all (is_sound_line head) ls ≡ true → w.pace.finished ≡ false
+dispatcher-able : (head : Head) (w : World) (ls : List Line) → AreLive head w → EndsOver w ls → list_all (is_sound_line head) ls ≡ true
+    → w.pace.finished ≡ false
     → ((c : Conn) → is_among c (conns head) ≡ true → is_able w c ≡ false) → dispatcher_step head w ls ≡ None → ⊥
 dispatcher-able head w ls live over sound going off e =
     let f : first_step head w ls ≡ None = map-none _ (first_step head w ls) e in
-    let g : option_or (option_map Act.Victim (cycle_in head w)) (option_or (taking head w ls) (if is_over w ls then ending_step head w else None)) ≡ None = rw going at f in
+    let g : option_or (option_map Act.Victim (cycle_in head w)) (option_or (taking head w ls) (if is_over w ls then ending_step head w else None)) ≡ None =
+    rw going at f in
     let t : (option_map Act.Victim (cycle_in head w) ≡ None) × (option_or (taking head w ls) (if is_over w ls then ending_step head w else None) ≡ None) =
     or-none _ _ g in
     first-some head w ls live over off (map-none Act.Victim (cycle_in head w) t.0) sound t.1

@@ -10,10 +10,13 @@ use Rattle.iso_history.specs.World.{World}
 use Rattle.iso_queue.specs.Locks.{Hold}
 use Rattle.iso_queue.specs.Queues.{Wait, ahead, blockers, edges, has_edge, opposes, queue, wait_of}
 use Rattle.iso_types.specs.Cycles.{is_among}
+use Rattle.iso_types.specs.Edges.{leads}
 use Rattle.iso_types.specs.Head.{conns, is_conn}
 use Rattle.iso_types.specs.Ids.{conn_eq, name_eq}
+use Rattle.iso_types.specs.declared.edges.Edges.{Edges}
 use Rattle.iso_types.specs.declared.head.Head.{Head}
 use Rattle.iso_types.specs.declared.value.Conn.{Conn}
+use Rattle.iso_waitgraph.proofs.Chosen.{same-tests}
 use Rattle.iso_waitgraph.proofs.Members.{among-cases, among-first, among-rest}
 use Rattle.iso_waitgraph.proofs.Sets.{or-right}
 use Rattle.iso_waitgraph.proofs.Ways.{conn-is}
@@ -44,10 +47,14 @@ range-rising i zero = tt
 range-rising i (suc n) = (λ d on. let t : (i + 1 ≤ d.0) × (d.0 < i + 1 + n) = range-past d (i + 1) n on in omega (arith, t.0), range-rising (i + 1) n)
 
 pub among-conns : (head : Head) (c : Conn) → is_conn head c ≡ true → is_among c (conns head) ≡ true
-among-conns head c known = range-has c 0 (length head.conns) (omega arith) (let l : c.0 < length head.conns = ltb-true c.0 (length head.conns) known in omega arith)
+among-conns head c known =
+    let l : c.0 < length head.conns = ltb-true c.0 (length head.conns) known in
+    range-has c 0 (length head.conns) (omega arith) (omega arith)
 
 pub conns-among : (head : Head) (c : Conn) → is_among c (conns head) ≡ true → is_conn head c ≡ true
-conns-among head c on = lt-ltb c.0 (length head.conns) (let t : (0 ≤ c.0) × (c.0 < 0 + length head.conns) = range-past c 0 (length head.conns) on in omega (arith, t.1))
+conns-among head c on =
+    let t : (0 ≤ c.0) × (c.0 < 0 + length head.conns) = range-past c 0 (length head.conns) on in
+    lt-ltb c.0 (length head.conns) (omega (arith, t.1))
 
 -- ---- edges
 
@@ -67,9 +74,9 @@ history-targets head holds waits edge same = record { rising = range-rising 0 (l
     go None = (λ d. false, sym (filter-none (conns head)))
     go (Some x) = (λ d. list_any (conn_eq d) (blockers holds waits x), refl)
 
-among-filter : (p : Conn → Bool) (c : Conn) (cs : List Conn) → is_among c cs ≡ true → p c ≡ true → is_among c (filter p cs) ≡ true
-among-filter p c [] on pass = on
-among-filter p c (d ∷ ds) on pass = decide (λ r. among-filter p c ds r pass) (p d) refl where
+pub among-kept : (p : Conn → Bool) (c : Conn) (cs : List Conn) → is_among c cs ≡ true → p c ≡ true → is_among c (filter p cs) ≡ true
+among-kept p c [] on pass = on
+among-kept p c (d ∷ ds) on pass = decide (λ r. among-kept p c ds r pass) (p d) refl where
   decide : (is_among c ds ≡ true → is_among c (filter p ds) ≡ true) → (b : Bool) → p d ≡ b → is_among c (filter p (d ∷ ds)) ≡ true
   decide ih true e = elim (among-cases c d ds on) [
     | inl s ↦ rw e (let P : Conn → Type 0 = λ z. is_among z (d ∷ filter p ds) ≡ true in subst P (sym s) (among-first d (filter p ds)))
@@ -92,8 +99,17 @@ among-passes p c (d ∷ ds) on = decide (among-passes p c ds) (p d) refl where
   ]
   decide ih false e = let t : (is_among c ds ≡ true) × (p c ≡ true) = ih (rw e at on) in (among-rest c d ds t.0, t.1)
 
-pub among-kept : (p : Conn → Bool) (c : Conn) (cs : List Conn) → is_among c cs ≡ true → p c ≡ true → is_among c (filter p cs) ≡ true
-among-kept p c cs on pass = among-filter p c cs on pass
+-- whether a connection is the head's
+among-test : (head : Head) (c : Conn) → is_among c (conns head) ≡ is_conn head c
+among-test head c = same-tests (is_among c (conns head)) (is_conn head c) (λ h. h, λ h. h) (λ h. among-conns head c h, λ h. conns-among head c h)
+
+-- so where sets of edges, a bit a connection, say what the edges of a history say, the chosen cycle of the sets is that of the history
+pub sets-targets : (head : Head) (holds : List Hold) (waits : List Wait) (sets : List Edges)
+    → ((c d : Conn) → leads sets c d ≡ (is_conn head c && is_among d (edges (conns head) holds waits c)))
+    → AreTargets (leads sets) (edges (conns head) holds waits) (conns head)
+sets-targets head holds waits sets same =
+    history-targets head holds waits (leads sets)
+    (λ c d. same c d ∙ ap (λ (b : Bool). b && is_among d (edges (conns head) holds waits c)) (sym (among-test head c)))
 
 -- ---- a wait with an edge has one to a live connection
 
@@ -147,5 +163,5 @@ stuck-on head w c x live is h =
     let t : (d : Conn) × IsLive head w.ended d × (list_any (conn_eq d) (blockers w.holds w.waits x) ≡ true) =
     blocked (IsLive head w.ended) w.holds w.waits x live.holds live.waits h in
     let on : is_among t.0 (filter (λ d. list_any (conn_eq d) (blockers w.holds w.waits x)) (conns head)) ≡ true =
-    among-filter (λ d. list_any (conn_eq d) (blockers w.holds w.waits x)) t.0 (conns head) (among-conns head t.0 t.1.0) t.2 in
+    among-kept (λ d. list_any (conn_eq d) (blockers w.holds w.waits x)) t.0 (conns head) (among-conns head t.0 t.1.0) t.2 in
     (t.0, t.1, rw is on)

@@ -199,7 +199,8 @@ joins-none P w _ = tt
 queued-all : (P : Wait → Type 0) (holds : List Hold) (x : Wait) (ws : List Wait) → P x → AllByRecursion P ws → AllByRecursion P (queued holds x ws)
 queued-all P holds x [] p h = (p, tt)
 queued-all P holds x (y ∷ ys) p h = decide (queued-all P holds x ys p h.1) (is_held holds x.conn x.name && is_new_beside holds x y) refl where
-  decide : AllByRecursion P (queued holds x ys) → (b : Bool) → (is_held holds x.conn x.name && is_new_beside holds x y) ≡ b → AllByRecursion P (queued holds x (y ∷ ys))
+  decide : AllByRecursion P (queued holds x ys) → (b : Bool) → (is_held holds x.conn x.name && is_new_beside holds x y) ≡ b
+      → AllByRecursion P (queued holds x (y ∷ ys))
   decide ih true e = rw e (p, h)
   decide ih false e = rw e (h.0, ih)
 

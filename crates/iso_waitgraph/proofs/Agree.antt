@@ -1,12 +1,12 @@
 -- The chosen cycle by trying paths is the chosen cycle by its properties.
-use Rattle.std.proofs.Common.{◌≡◌, ℕ, zero, suc, ◌+◌, ◌<◌, ◌≤◌, ◌⊎◌, inl, inr, Bool, true, false, ◌||◌, ◌==◌, List, [], ◌∷◌, ◌++◌, Option, Some, None, MatchOption, is_some, find, flat_map, reverse, length, refl, sym, ◌∙◌, ap, subst, arith, append-nil, ◌↔◌}
+use Rattle.std.proofs.Common.{◌≡◌, ℕ, zero, suc, ◌<◌, ◌≤◌, inl, inr, Bool, true, false, List, [], ◌∷◌, ◌++◌, Option, Some, None, MatchOption, is_some, find, flat_map, reverse, length, refl, sym, ◌∙◌, ap, subst, arith, append-nil, ◌↔◌}
 use Rattle.std.proofs.lemmas.Bool.{both_ways, cases_Bool, cases_lt}
 use Rattle.std.proofs.lemmas.List.{length-reverse, reverse-reverse}
-use Rattle.iso_types.specs.Cycles.{HasNoCycle, IsChosen, IsCycle, IsLeastOnCycle, IsShortestThrough, IsUpTo, chosen_cycle, closes, cycle_through, first_cycle, is_among, is_on_cycle, longer, shortest}
+use Rattle.iso_types.specs.Cycles.{HasNoCycle, IsChosen, IsCycle, IsShortestThrough, IsUpTo, chosen_cycle, closes, cycle_through, first_cycle, is_among, is_on_cycle, longer, shortest}
 use Rattle.iso_types.specs.declared.value.Conn.{Conn}
 use Rattle.iso_waitgraph.specs.Targets.{AreRising, AreTargets}
 use Rattle.iso_waitgraph.proofs.Members.{among-cases, among-first, among-rest, different-short, up-both, up-refl}
-use Rattle.iso_waitgraph.proofs.Paths.{Closes, ComesBefore, IsPath, before-up, cycle-out, cycle-path, cycle-turned, path-cycle}
+use Rattle.iso_waitgraph.proofs.Paths.{Closes, IsPath, before-up, cycle-out, cycle-path, cycle-turned, path-cycle}
 use Rattle.iso_waitgraph.proofs.Ways.{conn-is}
 use Rattle.iso_waitgraph.proofs.Tried.{Answers, answers, edge-parts, targets-within, tried-none}
 
@@ -73,12 +73,12 @@ module _ (edge : Conn → Conn → Bool) (edges : Conn → List Conn) (all : Lis
         cycle = subst (IsCycle edge) (sym is) t.2;
         through = subst (λ (z : List Conn). is_among c z ≡ true) (sym is) (among-first c t.0);
         shortest = λ p g i.
-        let u : (es : List Conn) × IsCycle edge (c ∷ es) × (length (c ∷ es) ≡ length p) = cycle-turned edge c p g i in
-        let b : IsPath edge c (reverse (c ∷ u.0)) × Closes edge c (reverse (c ∷ u.0)) × (length (reverse (c ∷ u.0)) ≡ suc (length u.0)) = back c u.0 u.1 in
-        let two : length (reverse (c ∷ u.0)) ≡ suc (length u.0) = b.2 in
-        let three : length (c ∷ u.0) ≡ length p = u.2 in
-        let short : length a.0 ≤ length (reverse (c ∷ u.0)) = a.4 (reverse (c ∷ u.0)) b.0 b.1 (omega arith) in
-        omega arith;
+            let u : (es : List Conn) × IsCycle edge (c ∷ es) × (length (c ∷ es) ≡ length p) = cycle-turned edge c p g i in
+            let b : IsPath edge c (reverse (c ∷ u.0)) × Closes edge c (reverse (c ∷ u.0)) × (length (reverse (c ∷ u.0)) ≡ suc (length u.0)) = back c u.0 u.1 in
+            let two : length (reverse (c ∷ u.0)) ≡ suc (length u.0) = b.2 in
+            let three : length (c ∷ u.0) ≡ length p = u.2 in
+            let short : length a.0 ≤ length (reverse (c ∷ u.0)) = a.4 (reverse (c ∷ u.0)) b.0 b.1 (omega arith) in
+            omega arith;
         least = λ p g i same. least p g i (same ∙ long);
       }
     where
@@ -122,23 +122,23 @@ module _ (edge : Conn → Conn → Bool) (edges : Conn → List Conn) (all : Lis
     none (c ∷ cs) g = both_ways false refl (on (c ∷ cs) c g (among-first c cs))
   first-chosen (c ∷ cs) up sub on =
       decide (first-chosen cs up.1 (λ d i. sub d (among-rest d c cs i))) (cycle_through edges all c) (tried c (sub c (among-first c cs))) where
-    first : (q : List Conn) (d : Conn) → IsCycle edge q → is_among d q ≡ true → c.0 ≤ d.0
-    first q d g i = elim (among-cases d c cs (on q d g i)) [
-      | inl s ↦ let same : d.0 ≡ c.0 = ap (λ (z : Conn). z.0) s in omega arith
-      | inr r ↦ let l : c.0 < d.0 = up.0 d r in omega arith
-    ]
+        first : (q : List Conn) (d : Conn) → IsCycle edge q → is_among d q ≡ true → c.0 ≤ d.0
+        first q d g i = elim (among-cases d c cs (on q d g i)) [
+          | inl s ↦ let same : d.0 ≡ c.0 = ap (λ (z : Conn). z.0) s in omega arith
+          | inr r ↦ let l : c.0 < d.0 = up.0 d r in omega arith
+        ]
 
-    decide : (((q : List Conn) (d : Conn) → IsCycle edge q → is_among d q ≡ true → is_among d cs ≡ true)
-        → MatchOption (first_cycle edges all cs) (HasNoCycle edge) (IsChosen edge))
-        → (o : Option (List Conn)) → Answers edge edges all h c 0 (length all) o
-        → MatchOption (elim o [ None ↦ first_cycle edges all cs | Some p ↦ Some p ]) (HasNoCycle edge) (IsChosen edge)
-    decide ih None a = ih (λ q d g i. elim (among-cases d c cs (on q d g i)) [
-      | inl s ↦ absurd (none-through c a q g (subst (λ (z : Conn). is_among z q ≡ true) s i))
-      | inr r ↦ r
-    ])
-    decide ih (Some p) a =
-        let t : IsShortestThrough edge c p = one-through c p a first in
-        (c, record { on = (p, t.cycle, t.through); least = first }, t)
+        decide : (((q : List Conn) (d : Conn) → IsCycle edge q → is_among d q ≡ true → is_among d cs ≡ true)
+            → MatchOption (first_cycle edges all cs) (HasNoCycle edge) (IsChosen edge))
+            → (o : Option (List Conn)) → Answers edge edges all h c 0 (length all) o
+            → MatchOption (elim o [ None ↦ first_cycle edges all cs | Some p ↦ Some p ]) (HasNoCycle edge) (IsChosen edge)
+        decide ih None a = ih (λ q d g i. elim (among-cases d c cs (on q d g i)) [
+          | inl s ↦ absurd (none-through c a q g (subst (λ (z : Conn). is_among z q ≡ true) s i))
+          | inr r ↦ r
+        ])
+        decide ih (Some p) a =
+            let t : IsShortestThrough edge c p = one-through c p a first in
+            (c, record { on = (p, t.cycle, t.through); least = first }, t)
 
   -- what trying the paths gives is the chosen cycle, and none where there is no cycle
   pub chosen : MatchOption (chosen_cycle edges all) (HasNoCycle edge) (IsChosen edge)
@@ -158,8 +158,11 @@ module _ (edge : Conn → Conn → Bool) (edges : Conn → List Conn) (all : Lis
   pub on-cycle : (c : Conn) → (is_on_cycle edges all c ≡ true) ↔ ((q : List Conn) × IsCycle edge q × (is_among c q ≡ true))
   on-cycle c = elim (cases_Bool (is_among c all)) [
     | inl t ↦ inside (cycle_through edges all c) (tried c t)
-    | inr f ↦ (λ e. absurd (both_ways (is_some (cycle_through edges all c)) (ap (λ (z : Option (List Conn)). is_some z) (never c (length all) ((c ∷ []) ∷ []) (away f))) e),
-               λ w. absurd (both_ways (is_among c all) f (cycle-within w.0 c w.1 w.2)))
+    | inr f ↦
+        let none : cycle_through edges all c ≡ None = never c (length all) ((c ∷ []) ∷ []) (away f) in (
+          λ e. absurd (both_ways (is_some (cycle_through edges all c)) (ap (λ (z : Option (List Conn)). is_some z) none) e),
+          λ w. absurd (both_ways (is_among c all) f (cycle-within w.0 c w.1 w.2)),
+        )
   ] where
     inside : (o : Option (List Conn)) → Answers edge edges all h c 0 (length all) o
         → (is_some o ≡ true) ↔ ((q : List Conn) × IsCycle edge q × (is_among c q ≡ true))

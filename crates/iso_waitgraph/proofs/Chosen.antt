@@ -222,9 +222,9 @@ same-tests false true h g = h.1 (g.0 refl)
 -- the nearest level to which the connection has an edge tells whether it lies on a cycle
 pub tells-cycle : (sets : List Edges) (start : Conn) (levels : List Edges) (o : Option ℕ) (b : Bool) → length sets ≡ 32 → AreLevels sets start levels 32
     → MatchOption o ((j : ℕ) (w : Conn) → j < 32 → has_edge (set_at sets start.0) w ≡ true → has_edge (set_at levels j) w ≡ true → ⊥)
-        (λ k. (k < 32)
-        × ((w : Conn) × (has_edge (set_at sets start.0) w ≡ true) × (has_edge (set_at levels k) w ≡ true))
-        × ((j : ℕ) (w : Conn) → j < k → has_edge (set_at sets start.0) w ≡ true → has_edge (set_at levels j) w ≡ true → ⊥))
+    (λ k. (k < 32)
+    × ((w : Conn) × (has_edge (set_at sets start.0) w ≡ true) × (has_edge (set_at levels k) w ≡ true))
+    × ((j : ℕ) (w : Conn) → j < k → has_edge (set_at sets start.0) w ≡ true → has_edge (set_at levels j) w ≡ true → ⊥))
     → b ≡ is_some o → (b ≡ true) ↔ ((q : List Conn) × IsCycle (leads sets) q × (is_among start q ≡ true))
 unfolding leads
 tells-cycle sets start levels None b full on h e =

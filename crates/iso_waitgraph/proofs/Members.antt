@@ -1,6 +1,5 @@
 -- Lists of different connections: reversed, turned, and no longer than a list that has them all.
-use Rattle.std.proofs.Common.{◌≡◌, ℕ, zero, suc, ◌+◌, ◌<◌, ◌≤◌, ◌⊎◌, inl, inr, Bool, true, false, ◌||◌, ◌==◌, List, [], ◌∷◌, ◌++◌, reverse, length, refl, sym, ◌∙◌, ap, subst, arith, append_assoc, append-nil, length-append}
-use Rattle.std.specs.List.{list_any}
+use Rattle.std.proofs.Common.{◌≡◌, suc, ◌≤◌, ◌⊎◌, inl, inr, Bool, true, false, ◌||◌, ◌==◌, List, [], ◌∷◌, ◌++◌, reverse, length, refl, sym, ◌∙◌, ap, subst, arith, append_assoc}
 use Rattle.std.proofs.lemmas.Bool.{cases_Bool, eq-eqb, eqb-true, or_cases, both_ways}
 use Rattle.std.proofs.lemmas.List.{reverse-append}
 use Rattle.std.proofs.lemmas.List.Folds.{list_any-append}
@@ -48,9 +47,10 @@ apart-turned xs ys h c on =
 
 different-join : (xs ys : List Conn) → AreDifferent xs → AreDifferent ys → AreApart xs ys → AreDifferent (xs ++ ys)
 different-join [] ys a b h = b
-different-join (x ∷ xs) ys a b h =
-    (among-append x xs ys ∙ or-neither (is_among x xs) (is_among x ys) a.0 (h x (among-first x xs)),
-     different-join xs ys a.1 b (λ c on. h c (among-rest c x xs on)))
+different-join (x ∷ xs) ys a b h = (
+  among-append x xs ys ∙ or-neither (is_among x xs) (is_among x ys) a.0 (h x (among-first x xs)),
+  different-join xs ys a.1 b (λ c on. h c (among-rest c x xs on)),
+)
 
 different-parts : (xs ys : List Conn) → AreDifferent (xs ++ ys) → AreDifferent xs × AreDifferent ys × AreApart xs ys
 different-parts [] ys h = (tt, h, λ c on. absurd (both_ways false refl on))
@@ -58,11 +58,14 @@ different-parts (x ∷ xs) ys h =
     let t : AreDifferent xs × AreDifferent ys × AreApart xs ys = different-parts xs ys h.1 in
     let none : (is_among x xs || is_among x ys) ≡ false = sym (among-append x xs ys) ∙ h.0 in
     let first : is_among x xs ≡ false = neither-left (is_among x xs) (is_among x ys) none in
-    let second : is_among x ys ≡ false = neither-right (is_among x xs) (is_among x ys) none in
-    ((first, t.0), t.1, λ c on. elim (among-cases c x xs on) [
-      | inl e ↦ let P : Conn → Type 0 = λ z. is_among z ys ≡ false in subst P (sym e) second
-      | inr r ↦ t.2 c r
-    ])
+    let second : is_among x ys ≡ false = neither-right (is_among x xs) (is_among x ys) none in (
+      (first, t.0),
+      t.1,
+      λ c on. elim (among-cases c x xs on) [
+        | inl e ↦ let P : Conn → Type 0 = λ z. is_among z ys ≡ false in subst P (sym e) second
+        | inr r ↦ t.2 c r
+      ],
+    )
   where
     neither-left : (a b : Bool) → (a || b) ≡ false → a ≡ false
     neither-left false b h = refl
@@ -100,17 +103,24 @@ taken : (x : Conn) (ys : List Conn) → is_among x ys ≡ true
     → (zs : List Conn) × (length ys ≡ suc (length zs)) × ((y : Conn) → is_among y ys ≡ true → (y.0 == x.0) ≡ false → is_among y zs ≡ true)
 taken x [] h = absurd (both_ways false refl h)
 taken x (c ∷ ys) h = elim (among-cases x c ys h) [
-  | inl e ↦ (ys, refl, λ y on out. elim (among-cases y c ys on) [
-    | inl s ↦ absurd (both_ways (y.0 == x.0) out (eq-eqb y.0 x.0 (ap (λ (z : Conn). z.0) (s ∙ sym e))))
-    | inr r ↦ r
-  ])
+  | inl e ↦ (
+    ys,
+    refl,
+    λ y on out. elim (among-cases y c ys on) [
+      | inl s ↦ absurd (both_ways (y.0 == x.0) out (eq-eqb y.0 x.0 (ap (λ (z : Conn). z.0) (s ∙ sym e))))
+      | inr r ↦ r
+    ],
+  )
   | inr r ↦
       let t : (zs : List Conn) × (length ys ≡ suc (length zs)) × ((y : Conn) → is_among y ys ≡ true → (y.0 == x.0) ≡ false → is_among y zs ≡ true) =
-      taken x ys r in
-      (c ∷ t.0, ap suc t.1, λ y on out. elim (among-cases y c ys on) [
-        | inl s ↦ let P : Conn → Type 0 = λ z. is_among z (c ∷ t.0) ≡ true in subst P (sym s) (among-first c t.0)
-        | inr i ↦ among-rest y c t.0 (t.2 y i out)
-      ])
+      taken x ys r in (
+        c ∷ t.0,
+        ap suc t.1,
+        λ y on out. elim (among-cases y c ys on) [
+          | inl s ↦ let P : Conn → Type 0 = λ z. is_among z (c ∷ t.0) ≡ true in subst P (sym s) (among-first c t.0)
+          | inr i ↦ among-rest y c t.0 (t.2 y i out)
+        ],
+      )
 ]
 
 -- different connections of a list are at most as many as it has

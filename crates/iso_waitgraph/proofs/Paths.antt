@@ -1,6 +1,6 @@
 -- Paths of different connections, last connection first, and the cycles that they close to.
-use Rattle.std.proofs.Common.{◌≡◌, ℕ, zero, suc, ◌+◌, ◌<◌, ◌≤◌, ◌⊎◌, inl, inr, Bool, true, false, ◌||◌, ◌==◌, List, [], ◌∷◌, ◌++◌, reverse, length, refl, sym, ◌∙◌, ap, subst, arith, append_assoc, append-nil, length-append}
-use Rattle.std.proofs.lemmas.Bool.{eq-eqb, both_ways}
+use Rattle.std.proofs.Common.{◌≡◌, ℕ, zero, suc, ◌+◌, ◌<◌, ◌≤◌, ◌⊎◌, inl, inr, Bool, true, false, ◌==◌, List, [], ◌∷◌, ◌++◌, reverse, length, refl, sym, ◌∙◌, ap, subst, arith, append-nil, length-append}
+use Rattle.std.proofs.lemmas.Bool.{both_ways}
 use Rattle.std.proofs.lemmas.List.{reverse-append}
 use Rattle.iso_types.specs.Cycles.{AreDifferent, HasNoCycle, IsCycle, IsUpTo, Leads, is_among}
 use Rattle.iso_types.specs.declared.value.Conn.{Conn}
@@ -80,9 +80,11 @@ cycle-turned edge s q h on =
     go : (xs ys : List Conn) → IsCycle edge (xs ++ s ∷ ys) → (es : List Conn) × IsCycle edge (s ∷ es) × (length (s ∷ es) ≡ length (xs ++ s ∷ ys))
     go [] ys g = (ys, g, refl)
     go (c ∷ xs) ys g =
-        let l : Leads edge c xs s × Leads edge s ys c = leads-split edge c s c xs ys g.1 in
-        (ys ++ c ∷ xs, (different-turned (c ∷ xs) (s ∷ ys) g.0, leads-join edge s c s ys xs l.1 l.0),
-         omega (arith, length-append {A = Conn} ys (c ∷ xs), length-append {A = Conn} xs (s ∷ ys)))
+        let l : Leads edge c xs s × Leads edge s ys c = leads-split edge c s c xs ys g.1 in (
+          ys ++ c ∷ xs,
+          (different-turned (c ∷ xs) (s ∷ ys) g.0, leads-join edge s c s ys xs l.1 l.0),
+          omega (arith, length-append {A = Conn} ys (c ∷ xs), length-append {A = Conn} xs (s ∷ ys)),
+        )
 
 -- each of a way has an edge
 leads-out : (edge : Conn → Conn → Bool) (c end d : Conn) (cs : List Conn) → Leads edge c cs end → is_among d (c ∷ cs) ≡ true → (x : Conn) × (edge d x ≡ true)

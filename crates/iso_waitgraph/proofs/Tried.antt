@@ -1,6 +1,5 @@
 -- The paths that the definition of the chosen cycle tries: all of their length, in order; the first that closes is the least.
-use Rattle.std.proofs.Common.{◌≡◌, ℕ, zero, suc, ◌+◌, ◌<◌, ◌≤◌, ◌⊎◌, inl, inr, Bool, true, false, ◌||◌, ◌&&◌, ◌==◌, not, List, [], ◌∷◌, ◌++◌, map, filter, find, flat_map, Option, Some, None, reverse, length, refl, sym, ◌∙◌, ap, subst, arith}
-use Rattle.std.specs.List.{list_any}
+use Rattle.std.proofs.Common.{◌≡◌, ℕ, zero, suc, ◌+◌, ◌<◌, ◌≤◌, ◌⊎◌, inl, inr, Bool, true, false, not, List, [], ◌∷◌, ◌++◌, map, filter, find, flat_map, Option, Some, None, reverse, length, refl, sym, ◌∙◌, ap, subst, arith}
 use Rattle.std.proofs.lemmas.Bool.{and_from, and_parts, both_ways, cases_lt, not-true}
 use Rattle.iso_types.specs.Cycles.{closes, is_among, longer, shortest}
 use Rattle.iso_types.specs.declared.value.Conn.{Conn}
@@ -53,9 +52,10 @@ AreInOrder (p ∷ ps) = ((q : List Conn) → IsIn ps q → ComesBefore p q) × A
 
 order-join : (xs ys : List (List Conn)) → AreInOrder xs → AreInOrder ys → ((x y : List Conn) → IsIn xs x → IsIn ys y → ComesBefore x y) → AreInOrder (xs ++ ys)
 order-join [] ys a b h = b
-order-join (x ∷ xs) ys a b h =
-    (λ q on. elim (in-either xs ys q on) [ inl l ↦ a.0 q l | inr r ↦ h x q (inl refl) r ],
-     order-join xs ys a.1 b (λ z y i j. h z y (inr i) j))
+order-join (x ∷ xs) ys a b h = (
+  λ q on. elim (in-either xs ys q on) [ inl l ↦ a.0 q l | inr r ↦ h x q (inl refl) r ],
+  order-join xs ys a.1 b (λ z y i j. h z y (inr i) j),
+)
 
 -- the first that passes is one of them, and comes before the others that pass
 found-first : (test : List Conn → Bool) (ps : List (List Conn)) (p : List Conn) → AreInOrder ps → find test ps ≡ Some p
@@ -71,11 +71,14 @@ found-first test (x ∷ xs) p h e = decide (found-first test xs p h.1) (test x) 
       subst P same (inl refl, t, λ q on pass. elim on [ inl s ↦ inl s | inr r ↦ inr (h.0 q r) ])
   decide ih false f =
       let rest : find test xs ≡ Some p = rw f at e in
-      let t : IsIn xs p × (test p ≡ true) × ((q : List Conn) → IsIn xs q → test q ≡ true → (q ≡ p) ⊎ ComesBefore p q) = ih rest in
-      (inr t.0, t.1, λ q on pass. elim on [
-        | inl s ↦ let P : List Conn → Type 0 = λ z. test z ≡ true in absurd (both_ways (test x) f (subst P s pass))
-        | inr r ↦ t.2 q r pass
-      ])
+      let t : IsIn xs p × (test p ≡ true) × ((q : List Conn) → IsIn xs q → test q ≡ true → (q ≡ p) ⊎ ComesBefore p q) = ih rest in (
+        inr t.0,
+        t.1,
+        λ q on pass. elim on [
+          | inl s ↦ let P : List Conn → Type 0 = λ z. test z ≡ true in absurd (both_ways (test x) f (subst P s pass))
+          | inr r ↦ t.2 q r pass
+        ],
+      )
 
 found-none : {A : Type 0} (test : A → Bool) (ps : List A) → find test ps ≡ None → (q : A) → IsIn ps q → test q ≡ true → ⊥
 found-none test [] e q h pass = h
@@ -229,14 +232,14 @@ module _ (edge : Conn → Conn → Bool) (edges : Conn → List Conn) (all : Lis
   all-longer-order [] a = tt
   all-longer-order (p ∷ ps) a =
       order-join (longer edges p) (flat_map (longer edges) ps) (longer-order p) (all-longer-order ps a.1) between where
-    between : (x y : List Conn) → IsIn (longer edges p) x → IsIn (flat_map (longer edges) ps) y → ComesBefore x y
-    between x y i j =
-        let v : (e : Conn) × (x ≡ e ∷ p) = longer-is p x i in
-        let t : (q : List Conn) × IsIn ps q × IsIn (longer edges q) y = in-parts (longer edges) ps y j in
-        let w : (e : Conn) × (y ≡ e ∷ t.0) = longer-is t.0 y t.2 in
-        let P : List Conn → Type 0 = λ z. ComesBefore z y in
-        let Q : List Conn → Type 0 = λ z. ComesBefore (v.0 ∷ p) z in
-        subst P (sym v.1) (subst Q (sym w.1) (inl (a.0 t.0 t.1)))
+        between : (x y : List Conn) → IsIn (longer edges p) x → IsIn (flat_map (longer edges) ps) y → ComesBefore x y
+        between x y i j =
+            let v : (e : Conn) × (x ≡ e ∷ p) = longer-is p x i in
+            let t : (q : List Conn) × IsIn ps q × IsIn (longer edges q) y = in-parts (longer edges) ps y j in
+            let w : (e : Conn) × (y ≡ e ∷ t.0) = longer-is t.0 y t.2 in
+            let P : List Conn → Type 0 = λ z. ComesBefore z y in
+            let Q : List Conn → Type 0 = λ z. ComesBefore (v.0 ∷ p) z in
+            subst P (sym v.1) (subst Q (sym w.1) (inl (a.0 t.0 t.1)))
 
   -- all paths of one edge more
   tried-more : (c : Conn) (k : ℕ) (paths : List (List Conn)) → is_among c all ≡ true → AreTried c k paths → AreTried c (suc k) (flat_map (longer edges) paths)
@@ -272,26 +275,34 @@ module _ (edge : Conn → Conn → Bool) (edges : Conn → List Conn) (all : Lis
       | inl g ↦ a p h e g (omega arith)
       | inr g ↦ none p h e (omega arith)
     ]
-  answers-later c k n (Some q) none a =
-      (a.0, a.1, a.2, a.3,
-       λ x h e l. elim (cases_lt (suc k) (length x)) [ inl g ↦ a.4 x h e g | inr g ↦ absurd (none x h e (omega arith)) ],
-       a.5)
+  answers-later c k n (Some q) none a = (
+    a.0,
+    a.1,
+    a.2,
+    a.3,
+    λ x h e l. elim (cases_lt (suc k) (length x)) [ inl g ↦ a.4 x h e g | inr g ↦ absurd (none x h e (omega arith)) ],
+    a.5,
+  )
 
   pub answers : (c : Conn) (k n : ℕ) (paths : List (List Conn)) → is_among c all ≡ true → AreTried c k paths → Answers c k n (shortest edges c n paths)
   answers c k zero paths on t = λ p h e l m. omega arith
   answers c k (suc n) paths on t =
       decide (answers c (suc k) n (flat_map (longer edges) paths) on (tried-more c k paths on t)) (find (closes edges c) paths) refl where
-    decide : Answers c (suc k) n (shortest edges c n (flat_map (longer edges) paths))
-        → (o : Option (List Conn)) → find (closes edges c) paths ≡ o
-        → Answers c k (suc n) (elim o [ None ↦ shortest edges c n (flat_map (longer edges) paths) | Some p ↦ Some (reverse p) ])
-    decide ih None e =
-        (answers-later c k n (shortest edges c n (flat_map (longer edges) paths))
-        (λ p h s l. found-none (closes edges c) paths e p (t.whole p h l) (closes-from c p s)) ih)
-    decide ih (Some p) e =
-        let f : IsIn paths p × (closes edges c p ≡ true) × ((q : List Conn) → IsIn paths q → closes edges c q ≡ true → (q ≡ p) ⊎ ComesBefore p q) =
-        found-first (closes edges c) paths p t.order e in
-        let s : IsPath edge c p × (length p ≡ suc k) = t.sound p f.0 in
-        let long : length p ≡ suc k = s.1 in
-        (p, refl, s.0, closes-to c p on s.0 f.1,
+        decide : Answers c (suc k) n (shortest edges c n (flat_map (longer edges) paths))
+            → (o : Option (List Conn)) → find (closes edges c) paths ≡ o
+            → Answers c k (suc n) (elim o [ None ↦ shortest edges c n (flat_map (longer edges) paths) | Some p ↦ Some (reverse p) ])
+        decide ih None e =
+            (answers-later c k n (shortest edges c n (flat_map (longer edges) paths))
+            (λ p h s l. found-none (closes edges c) paths e p (t.whole p h l) (closes-from c p s)) ih)
+        decide ih (Some p) e =
+            let f : IsIn paths p × (closes edges c p ≡ true) × ((q : List Conn) → IsIn paths q → closes edges c q ≡ true → (q ≡ p) ⊎ ComesBefore p q) =
+            found-first (closes edges c) paths p t.order e in
+            let s : IsPath edge c p × (length p ≡ suc k) = t.sound p f.0 in
+            let long : length p ≡ suc k = s.1 in (
+              p,
+              refl,
+              s.0,
+              closes-to c p on s.0 f.1,
               λ x h g l. omega arith,
-              λ x h g l. f.2 x (t.whole x h (omega arith)) (closes-from c x g))
+              λ x h g l. f.2 x (t.whole x h (omega arith)) (closes-from c x g),
+            )

@@ -1,4 +1,4 @@
-use Rattle.std.proofs.Common.{arith, ◌∙◌, sym, true, ◌≡◌, List}
+use Rattle.std.proofs.Common.{arith, ◌∙◌, sym}
 use Rattle.iso_types.specs.Edges.{leads}
 use Rattle.iso_waitgraph.proofs.Agree.{chosen, chosen-same}
 use Rattle.iso_waitgraph.proofs.Chosen.{next-start, none-left, none-of, some-of}

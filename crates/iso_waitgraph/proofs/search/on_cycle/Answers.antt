@@ -1,7 +1,5 @@
-use Rattle.std.proofs.Common.{◌≡◌, ◌<◌, ◌↔◌, List, true}
-use Rattle.iso_types.specs.Cycles.{IsCycle, is_among, is_on_cycle}
+use Rattle.iso_types.specs.Cycles.{is_on_cycle}
 use Rattle.iso_types.specs.Edges.{leads}
-use Rattle.iso_types.specs.declared.value.Conn.{Conn}
 use Rattle.iso_waitgraph.proofs.Agree.{on-cycle}
 use Rattle.iso_waitgraph.proofs.Chosen.{tells-cycle, same-tests}
 use Rattle.iso_waitgraph.proofs.search.on_cycle.Goals as goal
