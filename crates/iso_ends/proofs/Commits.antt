@@ -23,7 +23,8 @@ use Rattle.iso_state.proofs.Desks.{claims-own}
 use Rattle.iso_state.proofs.Shuts.{shut-at}
 use Rattle.iso_state.proofs.Steps.{IsRoomFor, conn-is, is-open, own-desk, own-place}
 use Rattle.iso_state.specs.Changes.{stepped}
-use Rattle.iso_state.specs.Stands.{HasPlace, IsDeskOf, LocksAre, Stands, StandsFor, content_of, desk_at, world_of}
+use Rattle.iso_locklist.specs.Holding.{LocksAre}
+use Rattle.iso_state.specs.Stands.{HasPlace, IsDeskOf, Stands, StandsFor, content_of, desk_at, world_of}
 use Rattle.iso_state.specs.Steps.{Spends}
 use Rattle.iso_state.specs.declared.parts.Parts.{Parts}
 
@@ -48,7 +49,7 @@ module _ (p q : Parts) (c : Conn) (s : StandsFor p) (free : (world_of p).pace.fi
   }
 
   pub commit-place : (l : Ledger) → Spends p q
-      → LocksAre (dropped c (world_of p).holds) (unqueued c (world_of p).waits) l.places → IsSameLimits l p.locks
+      → LocksAre (dropped c (world_of p).holds) (unqueued c (world_of p).waits) l → IsSameLimits l p.locks
       → content_of q ≡ stepped (content_of p) (committed (content_of p).chain c (left (world_of p).records (unit_of (world_of p) c))) l
       (slice_set p.desks c.0 (record (desk_at p.desks c) { phase = Idle; claimed = false })) (p.reserved - (length (left_of (world_of p) c) + 2)) (by_agent c Commit)
       → StandsFor q
@@ -63,7 +64,7 @@ module _ (p q : Parts) (c : Conn) (s : StandsFor p) (free : (world_of p).pace.fi
         chain = committed-stands (content_of p) c s.stands runs;
         works = length-set (content_of p).chain.book.works c.0 None;
         entries = refl;
-        locks = subst (λ (hs : List Hold). LocksAre hs (unqueued c (world_of p).waits) l.places) (all_dropped c None (world_of p).holds) are;
+        locks = subst (λ (hs : List Hold). LocksAre hs (unqueued c (world_of p).waits) l) (all_dropped c None (world_of p).holds) are;
         limits = same;
         desk = commit-desk (desk_at p.desks c) (own-desk (content_of p) c (desk_at p.desks c) s.stands lt refl);
         reserved = omega (arith, covers);

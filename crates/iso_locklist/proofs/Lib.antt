@@ -14,6 +14,7 @@ pub mod Order
 pub mod Listed
 pub mod Ordered
 pub mod Shown
+pub mod AlikeSnapshots
 pub mod Singles
 pub mod Totals
 pub mod Ends
@@ -25,3 +26,4 @@ pub mod ClaimedLists
 pub mod SettledLists
 pub mod SingleLists
 pub mod AlikeClaims
+pub mod Holding

@@ -45,7 +45,8 @@ use Rattle.iso_state.proofs.Steps.{IsOwn, IsRoomFor, conn-is, is-open, own-desk,
 use Rattle.iso_state.proofs.Waits.{queues-by, rolls-by, waits-own}
 use Rattle.iso_state.specs.Changes.{entered, relocked, seated, unclaimed}
 use Rattle.iso_state.specs.Kinds.{is_bare, queues, times_out}
-use Rattle.iso_state.specs.Stands.{Content, HasPlace, IsDeskOf, LocksAre, Stands, StandsFor, content_of, desk_at, is_claimed, world_of}
+use Rattle.iso_locklist.specs.Holding.{LocksAre}
+use Rattle.iso_state.specs.Stands.{Content, HasPlace, IsDeskOf, Stands, StandsFor, content_of, desk_at, is_claimed, world_of}
 use Rattle.iso_state.specs.Steps.{IsReady, KeepsRoom, Spends, is_past}
 use Rattle.iso_state.specs.declared.parts.Parts.{Parts}
 
@@ -177,7 +178,7 @@ room-for p q a le s e = let more = s.log in
 -- one more bare entry
 bare-from : (p q : Parts) (l : Ledger) (c : Conn) (a : Act) → StandsFor p → IsReady p 1 → Spends p q → (world_of p).pace.finished ≡ false
     → c.0 < length p.head.conns → ByAgent p.head (world_of p) c a → is_bare a ≡ true
-    → LocksAre (after p.head (world_of p) (by_agent c a)).holds (world_of p).waits l.places → IsSameLimits l p.locks
+    → LocksAre (after p.head (world_of p) (by_agent c a)).holds (world_of p).waits l → IsSameLimits l p.locks
     → content_of q ≡ entered (relocked (content_of p) l) c (by_agent c a) → StandsFor q
 bare-from p q l c a s ready spends free lt by kind are same wrote =
     let b = bare-is p.head (world_of p) c a kind in
@@ -278,7 +279,7 @@ timed_out-desk head w c a d b runs is = let l = b.leaves in
 -- one more entry that queues
 queued-from : (p q : Parts) (l : Ledger) (c : Conn) (a : Act) → StandsFor p → IsReady p 1 → Spends p q → (world_of p).pace.finished ≡ false
     → c.0 < length p.head.conns → phase (world_of p) c ≡ Running → ByAgent p.head (world_of p) c a → queues a ≡ true
-    → LocksAre (after p.head (world_of p) (by_agent c a)).holds (after p.head (world_of p) (by_agent c a)).waits l.places → IsSameLimits l p.locks
+    → LocksAre (after p.head (world_of p) (by_agent c a)).holds (after p.head (world_of p) (by_agent c a)).waits l → IsSameLimits l p.locks
     → content_of q ≡ seated (relocked (content_of p) l) c (record (desk_at p.desks c) { phase = Phase.Waiting; claimed = false }) (by_agent c a)
     → StandsFor q
 queued-from p q l c a s ready spends free lt runs by kind are same wrote =
@@ -328,7 +329,7 @@ covers-from p c a s free lt by kind =
 -- one more entry that timed out
 timed_out-from : (p q : Parts) (l : Ledger) (c : Conn) (a : Act) → StandsFor p → IsReady p 0 → Spends p q → (world_of p).pace.finished ≡ false
     → c.0 < length p.head.conns → phase (world_of p) c ≡ Running → ByAgent p.head (world_of p) c a → times_out a ≡ true
-    → LocksAre (after p.head (world_of p) (by_agent c a)).holds (world_of p).waits l.places → IsSameLimits l p.locks
+    → LocksAre (after p.head (world_of p) (by_agent c a)).holds (world_of p).waits l → IsSameLimits l p.locks
     → content_of q ≡ seated (record (content_of p) { locks = l; reserved = p.reserved - 1 }) c
     (record (desk_at p.desks c) { phase = Rolling; doom = 68; claimed = false }) (by_agent c a)
     → StandsFor q
@@ -387,13 +388,13 @@ module _ (o p q : Parts) (l : Ledger) (c : Conn) (a : Act) (s : StandsFor p) (sa
 
   -- a bare entry
   pub bare-place : IsReady p 1 → ByAgent o.head (world_of o) c a → is_bare a ≡ true
-      → LocksAre (after p.head (world_of p) (by_agent c a)).holds (world_of p).waits l.places → IsSameLimits l p.locks
+      → LocksAre (after p.head (world_of p) (by_agent c a)).holds (world_of p).waits l → IsSameLimits l p.locks
       → content_of q ≡ entered (relocked (content_of p) l) c (by_agent c a) → StandsFor q
   bare-place ready by kind are limits wrote = bare-from p q l c a s ready spends free-now lt-now (by-now by) kind are limits wrote
 
   -- one that queues
   pub queued-place : IsReady p 1 → phase (world_of o) c ≡ Running → ByAgent o.head (world_of o) c a → queues a ≡ true
-      → LocksAre (after p.head (world_of p) (by_agent c a)).holds (after p.head (world_of p) (by_agent c a)).waits l.places → IsSameLimits l p.locks
+      → LocksAre (after p.head (world_of p) (by_agent c a)).holds (after p.head (world_of p) (by_agent c a)).waits l → IsSameLimits l p.locks
       → content_of q ≡ seated (relocked (content_of p) l) c (record (desk_at p.desks c) { phase = Phase.Waiting; claimed = false }) (by_agent c a)
       → StandsFor q
   queued-place ready runs by kind are limits wrote =
@@ -401,7 +402,7 @@ module _ (o p q : Parts) (l : Ledger) (c : Conn) (a : Act) (s : StandsFor p) (sa
 
   -- one that timed out
   pub timed_out-place : IsReady p 0 → phase (world_of o) c ≡ Running → ByAgent o.head (world_of o) c a → times_out a ≡ true
-      → LocksAre (after p.head (world_of p) (by_agent c a)).holds (world_of p).waits l.places → IsSameLimits l p.locks
+      → LocksAre (after p.head (world_of p) (by_agent c a)).holds (world_of p).waits l → IsSameLimits l p.locks
       → content_of q ≡ seated (record (content_of p) { locks = l; reserved = p.reserved - 1 }) c
       (record (desk_at p.desks c) { phase = Rolling; doom = 68; claimed = false }) (by_agent c a)
       → StandsFor q

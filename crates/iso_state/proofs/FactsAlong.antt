@@ -1,12 +1,10 @@
 -- What the steps of locks ask of the world holds in every legal history.
 use Rattle.std.proofs.Common.{◌≡◌, ◌≤◌, ◌<◌, ◌+◌, ◌∙◌, ℕ, List, true, false, length, refl, ap, sym, arith, Some}
 use Rattle.std.proofs.lemmas.List.{length-map}
-use Rattle.iso_history.proofs.Snoc.{along}
 use Rattle.iso_chain.proofs.Debts.{debt-is}
 use Rattle.iso_chain.proofs.Kept.{kept-world}
 use Rattle.iso_chain.specs.Facts.{AreKept}
 use Rattle.iso_chain.specs.Logs.{note_of_record}
-use Rattle.iso_history.proofs.limits.Courses.{shut_of-some}
 use Rattle.iso_history.proofs.limits.Begun.{none_left}
 use Rattle.iso_history.proofs.limits.Made.{made-is}
 use Rattle.iso_history.proofs.limits.Pushed.{entries-fit}
@@ -15,10 +13,11 @@ use Rattle.iso_history.proofs.limits.Within.{within}
 use Rattle.iso_history.proofs.pending.MakersAfter.{change-lock, runs-unit}
 use Rattle.iso_history.proofs.whole.Journal.{first-fitted, log_sound-world}
 use Rattle.iso_history.proofs.whole.Writers.{top-of-unit, writer-alone}
-use Rattle.iso_history.proofs.whole.Sound.{sound-after, sound-world, start-sound}
+use Rattle.iso_history.proofs.whole.Locks.{lock_facts}
+use Rattle.iso_history.proofs.whole.Sound.{sound-world}
 use Rattle.iso_history.specs.After.{after, start, world}
 use Rattle.iso_history.specs.Courses.{NoneLeft}
-use Rattle.iso_history.specs.Facts.{IsSound, LockFacts, LogSound, UnitsApart, WaitersBusy, WaitsUncovered}
+use Rattle.iso_history.specs.Facts.{IsSound, LockFacts, LogSound, UnitsApart}
 use Rattle.iso_history.specs.Fitted.{RowsFit}
 use Rattle.iso_history.specs.Phases.{phase}
 use Rattle.iso_history.specs.Records.{count, debt, last_left, note_of}
@@ -29,9 +28,6 @@ use Rattle.iso_history.specs.Writes.{may_change}
 use Rattle.iso_history.specs.Legal.{Allowed, Ground}
 use Rattle.iso_history.specs.World.{Note, World}
 use Rattle.iso_history.specs.declared.entry.Entry.{Entry}
-use Rattle.iso_state.proofs.Covers.{uncovered-after}
-use Rattle.iso_state.proofs.Joins.{of_head-world}
-use Rattle.iso_state.proofs.Plain.{plain-world}
 use Rattle.iso_state.specs.Stands.{Content, Stands}
 use Rattle.iso_types.specs.declared.desk.Phase.TheVariants.{Running}
 use Rattle.iso_types.specs.declared.head.Head.{Head}
@@ -39,31 +35,6 @@ use Rattle.iso_types.specs.declared.value.Conn.{Conn}
 use Rattle.iso_types.specs.declared.value.Rid.{Rid}
 use Rattle.iso_types.specs.declared.value.TableId.{TableId}
 use Rattle.iso_uow.specs.Book.{debt_of}
-
-first-uncovered : (head : Head) → WaitsUncovered head (start head)
-unfolding WaitsUncovered
-first-uncovered head c x e = cc
-
--- no wait is covered
-pub uncovered-world : (head : Head) (es : List Entry) → Ground head es → WaitsUncovered head (world head es)
-uncovered-world head es g = (along head (λ w. IsSound head w × WaitsUncovered head w)
-    (λ w e al h. (sound-after head w e al h.0, uncovered-after head w e al h.0.tables h.1)) es (start-sound head, first-uncovered head) g).1
-
--- the statement of who waits is open
-pub busy-of : (head : Head) (w : World) → IsSound head w → WaitersBusy w
-unfolding WaitersBusy
-busy-of head w s c e = shut_of-some (w.line c) ((s.course.each c).waits e).1
-
--- all of them
-pub lock_facts-world : (head : Head) (es : List Entry) → Ground head es → LockFacts head (world head es)
-lock_facts-world head es g = let s = sound-world head es g in record {
-  single = s.single;
-  alone = s.alone;
-  of_head = of_head-world head es g;
-  uncovered = uncovered-world head es g;
-  plain = plain-world head es g;
-  busy = busy-of head (world head es) s;
-}
 
 -- Facts that the steps ask, each from parts that stand for their history: what a step author imports in place of the histories' own.
 module _ {p : Content} (s : Stands p) where
@@ -76,7 +47,7 @@ module _ {p : Content} (s : Stands p) where
 
   -- what the steps of locks ask
   pub facts-of : LockFacts p.head (world p.head p.history)
-  facts-of = lock_facts-world p.head p.history s.ground
+  facts-of = lock_facts p.head p.history s.ground
 
   -- the head's rows fit their tables
   pub first_rows-of : RowsFit p.head (start p.head).tables

@@ -8,10 +8,5 @@ pub mod LockReads
 pub mod LockWrites
 pub mod Waits
 pub mod Shuts
-pub mod Others
-pub mod Joins
-pub mod Plain
 pub mod News
-pub mod Uncovered
-pub mod Covers
 pub mod FactsAlong

@@ -28,7 +28,8 @@ use Rattle.iso_types.specs.declared.value.Conn.{Conn}
 use Rattle.iso_state.proofs.Desks.{desks-set, others-kept}
 use Rattle.iso_state.proofs.FactsAlong.{apart-of, none_left-of, within-of}
 use Rattle.iso_state.specs.Changes.{stepped}
-use Rattle.iso_state.specs.Stands.{AreOf, Content, DesksStand, HasPlace, IsDeskOf, IsLimitedBy, LocksAre, Stands, desk_at}
+use Rattle.iso_state.specs.Stands.{AreOf, Content, DesksStand, HasPlace, IsDeskOf, IsLimitedBy, Stands, desk_at}
+use Rattle.iso_locklist.specs.Holding.{LocksAre}
 
 -- a connection of the head, as a test
 pub conn-is : (head : Head) (c : Conn) → c.0 < length head.conns → is_conn head c ≡ true
@@ -61,7 +62,7 @@ pub record IsStep (p : Content) (e : Entry) (k : Chained) (l : Ledger) (ds : Lis
   pub chain : AreChained (after p.head (world p.head p.history) e) k
   pub works : length k.book.works ≡ length p.chain.book.works
   pub entries : (after p.head (world p.head p.history) e).entries ≡ (world p.head p.history).entries
-  pub locks : LocksAre (after p.head (world p.head p.history) e).holds (after p.head (world p.head p.history) e).waits l.places
+  pub locks : LocksAre (after p.head (world p.head p.history) e).holds (after p.head (world p.head p.history) e).waits l
   pub limits : IsSameLimits l p.locks
   pub desks : DesksStand ds (after p.head (world p.head p.history) e)
   pub seats : length ds ≡ length p.desks
@@ -134,7 +135,7 @@ pub record IsOwn (p : Content) (c : Conn) (a : Act) (k : Chained) (l : Ledger) (
   pub chain : AreChained (after p.head (world p.head p.history) (by_agent c a)) k
   pub works : length k.book.works ≡ length p.chain.book.works
   pub entries : (after p.head (world p.head p.history) (by_agent c a)).entries ≡ (world p.head p.history).entries
-  pub locks : LocksAre (after p.head (world p.head p.history) (by_agent c a)).holds (after p.head (world p.head p.history) (by_agent c a)).waits l.places
+  pub locks : LocksAre (after p.head (world p.head p.history) (by_agent c a)).holds (after p.head (world p.head p.history) (by_agent c a)).waits l
   pub limits : IsSameLimits l p.locks
   pub desk : IsDeskOf (after p.head (world p.head p.history) (by_agent c a)) c d
   pub reserved : n + reserves_less (world p.head p.history) (Agent c) a ≡ p.reserved + reserves_more (world p.head p.history) (Agent c) a

@@ -12,11 +12,8 @@ use Rattle.iso_types.specs.declared.value.Value.{Value}
 use Rattle.iso_chain.specs.Stands.{AreChained, Chained}
 use Rattle.iso_chain.specs.Views.{chained}
 use Rattle.iso_key.specs.Pages.{entries}
-use Rattle.iso_queue.specs.Locks.{Hold}
-use Rattle.iso_queue.specs.Queues.{Wait}
-use Rattle.iso_locklist.specs.Lists.{HoldsAlike, WaitsAlike, holds_in, waits_in}
+use Rattle.iso_locklist.specs.Holding.{LocksAre}
 use Rattle.iso_locklist.specs.Places.{Ledger}
-use Rattle.iso_locklist.specs.declared.places.Place.{Place}
 use Rattle.iso_history.specs.declared.entry.Entry.{Entry}
 use Rattle.iso_history.specs.After.{world}
 use Rattle.iso_history.specs.Legal.{Ground}
@@ -84,10 +81,6 @@ pub record IsDeskOf (w : World) (c : Conn) (d : Desk) : Type 0 where
 abbrev pub DesksStand : List Desk → World → Type 0
 DesksStand desks w = (c : Conn) → c.0 < length desks → IsDeskOf w c (desk_at desks c)
 
--- the lock list has of each name these holds and these waits, in the same order
-pub record LocksAre (hs : List Hold) (xs : List Wait) (places : List Place) : Type 0 where
-  pub holds : HoldsAlike (holds_in places) hs
-  pub waits : WaitsAlike (waits_in places) xs
 
 -- its limits, and the tables of the indexes, are the head's
 pub record IsLimitedBy (head : Head) (l : Ledger) : Type 0 where
@@ -113,7 +106,7 @@ pub record HeadFits (head : Head) : Type 0 where
 pub record AreOf (w : World) (p : Content) : Type 0 where
   pub chain : AreChained w p.chain
   pub entries : p.entries ≡ w.entries
-  pub locks : LocksAre w.holds w.waits p.locks.places
+  pub locks : LocksAre w.holds w.waits p.locks
   pub desks : DesksStand p.desks w
   pub reserved : p.reserved ≡ reserves p.head w
 

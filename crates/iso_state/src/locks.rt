@@ -13,7 +13,8 @@ ghost use Rattle.iso_history.specs.Requests.Outcome.{Gives};
 ghost use Rattle.iso_history.specs.declared.entry.Got.{Got as Gained};
 ghost use Rattle.iso_state.specs.Changes.{relocked};
 ghost use Rattle.iso_state.specs.Judged.{judged_as};
-ghost use Rattle.iso_state.specs.Stands.{LocksAre, StandsFor, content_of, world_of};
+ghost use Rattle.iso_locklist.specs.Holding.{LocksAre};
+ghost use Rattle.iso_state.specs.Stands.{StandsFor, content_of, world_of};
 ghost use Rattle.iso_state.specs.Steps.{KeepsRoom};
 
 use crate::changes::desk_of;
@@ -38,7 +39,6 @@ pub fn hold(parts: &Parts, conn: Conn, name: &Name) -> Option<Hold>
     requires stands { StandsFor parts.now }
     ensures { option_map (named_hold name.now) result ≡ hold_on (world_of parts.now).holds conn name.now }
 {
-    parts.locks.lists_hold_each_name(conn, *name);
     parts.locks.held(conn, *name)
 }
 
@@ -47,9 +47,6 @@ pub fn covered(parts: &Parts, conn: Conn, name: &Name, mode: Mode) -> bool
     requires stands { StandsFor parts.now }
     ensures { result ≡ is_covered parts.now.head (world_of parts.now).holds conn name.now mode }
 {
-    parts
-        .locks
-        .lists_cover_each_request(&parts.head, conn, *name, mode);
     parts.locks.covered(conn, *name, mode)
 }
 
@@ -100,7 +97,6 @@ pub fn is_limited(parts: &Parts, conn: Conn, more: u32) -> bool
     requires conn { conn.0 < length parts.now.head.conns }
     ensures { result ≡ is_at_limit parts.now.head (world_of parts.now) conn more }
 {
-    parts.locks.lists_count_taken(&parts.head, conn);
     match parts.locks.room(conn, more) {
         Room::Free => false,
         Room::AtShare => true,
@@ -142,7 +138,6 @@ pub fn can_claim(parts: &Parts, conn: Conn) -> bool
     requires stands { StandsFor parts.now }
     ensures { result ≡ is_grantable (world_of parts.now).holds (world_of parts.now).waits conn }
 {
-    parts.locks.lists_tell_each_wait(conn);
     parts.locks.can_claim(conn)
 }
 
@@ -160,7 +155,7 @@ pub fn place(
     requires granted { request parts.old.head (world_of parts.old) conn name.now mode ≡ Gives Gained.Granted }
     ensures content { content_of parts.new ≡ relocked (content_of parts.old) parts.new.locks }
     ensures room { KeepsRoom parts.old parts.new }
-    ensures ok { OnOk result (LocksAre (placed parts.old.head (world_of parts.old).holds conn (asked_for name.now mode term)) (world_of parts.old).waits parts.new.locks.places) }
+    ensures ok { OnOk result (LocksAre (placed parts.old.head (world_of parts.old).holds conn (asked_for name.now mode term)) (world_of parts.old).waits parts.new.locks) }
     ensures limits { IsSameLimits parts.new.locks parts.old.locks }
     ensures err { OnErr result (content_of parts.new ≡ content_of parts.old) }
     ensures stands { OnErr result (StandsFor parts.new) }
@@ -190,7 +185,7 @@ pub fn enqueue(
     requires queues { request parts.old.head (world_of parts.old) conn name.now mode ≡ Gives (Gained.Queued to) }
     ensures content { content_of parts.new ≡ relocked (content_of parts.old) parts.new.locks }
     ensures room { KeepsRoom parts.old parts.new }
-    ensures ok { OnOk result (LocksAre (world_of parts.old).holds (queued (world_of parts.old).holds (record { name = name.now; conn = conn; target = to; term = term }) (world_of parts.old).waits) parts.new.locks.places) }
+    ensures ok { OnOk result (LocksAre (world_of parts.old).holds (queued (world_of parts.old).holds (record { name = name.now; conn = conn; target = to; term = term }) (world_of parts.old).waits) parts.new.locks) }
     ensures limits { IsSameLimits parts.new.locks parts.old.locks }
     ensures err { OnErr result (content_of parts.new ≡ content_of parts.old) }
     ensures stands { OnErr result (StandsFor parts.new) }
@@ -210,7 +205,7 @@ pub fn take_kept(parts: &mut Parts, conn: Conn, name: &Name, mode: Mode) -> Resu
     requires granted { request parts.old.head (world_of parts.old) conn name.now mode ≡ Gives Gained.Granted }
     ensures content { content_of parts.new ≡ relocked (content_of parts.old) parts.new.locks }
     ensures room { KeepsRoom parts.old parts.new }
-    ensures ok { OnOk result (LocksAre (without_briefs (placed parts.old.head (world_of parts.old).holds conn (asked_for name.now mode Terms.Kept)) conn (settled conn None (placed parts.old.head (world_of parts.old).holds conn (asked_for name.now mode Terms.Kept)))) (world_of parts.old).waits parts.new.locks.places) }
+    ensures ok { OnOk result (LocksAre (without_briefs (placed parts.old.head (world_of parts.old).holds conn (asked_for name.now mode Terms.Kept)) conn (settled conn None (placed parts.old.head (world_of parts.old).holds conn (asked_for name.now mode Terms.Kept)))) (world_of parts.old).waits parts.new.locks) }
     ensures limits { IsSameLimits parts.new.locks parts.old.locks }
     ensures err { OnErr result (content_of parts.new ≡ content_of parts.old) }
     ensures stands { OnErr result (StandsFor parts.new) }
@@ -235,7 +230,7 @@ fn take_spared(
     requires granted { request parts.old.head (world_of parts.old) conn name.now mode ≡ Gives Gained.Granted }
     ensures content { content_of parts.new ≡ relocked (content_of parts.old) parts.new.locks }
     ensures room { KeepsRoom parts.old parts.new }
-    ensures ok { OnOk result (LocksAre (without_briefs (placed parts.old.head (world_of parts.old).holds conn (asked_for name.now mode term)) conn (settled conn (Some name.now) (placed parts.old.head (world_of parts.old).holds conn (asked_for name.now mode term)))) (world_of parts.old).waits parts.new.locks.places) }
+    ensures ok { OnOk result (LocksAre (without_briefs (placed parts.old.head (world_of parts.old).holds conn (asked_for name.now mode term)) conn (settled conn (Some name.now) (placed parts.old.head (world_of parts.old).holds conn (asked_for name.now mode term)))) (world_of parts.old).waits parts.new.locks) }
     ensures limits { IsSameLimits parts.new.locks parts.old.locks }
     ensures err { OnErr result (content_of parts.new ≡ content_of parts.old) }
     ensures stands { OnErr result (StandsFor parts.new) }
@@ -288,7 +283,7 @@ pub fn take(
     requires long { terms.is_brief term ≡ false }
     ensures content { content_of parts.new ≡ relocked (content_of parts.old) parts.new.locks }
     ensures room { KeepsRoom parts.old parts.new }
-    ensures ok { OnOk result (LocksAre (without_briefs (world_of parts.old).holds conn (placed parts.old.head (settled conn (if spared then Some name.now else None) (world_of parts.old).holds) conn (asked_for name.now mode term))) (world_of parts.old).waits parts.new.locks.places) }
+    ensures ok { OnOk result (LocksAre (without_briefs (world_of parts.old).holds conn (placed parts.old.head (settled conn (if spared then Some name.now else None) (world_of parts.old).holds) conn (asked_for name.now mode term))) (world_of parts.old).waits parts.new.locks) }
     ensures limits { IsSameLimits parts.new.locks parts.old.locks }
     ensures err { OnErr result (content_of parts.new ≡ content_of parts.old) }
     ensures stands { OnErr result (StandsFor parts.new) }

@@ -9,10 +9,11 @@ use Rattle.iso_types.specs.declared.desk.Desk.{Desk}
 use Rattle.iso_types.specs.declared.desk.Phase.TheVariants.{Idle}
 use Rattle.iso_ends.proofs.Commits.{commit-covers, commit-place}
 use Rattle.iso_state.specs.Changes.{rechained, seated}
-use Rattle.iso_state.specs.Stands.{Content, LocksAre, content_of, desk_at, world_of}
+use Rattle.iso_locklist.specs.Holding.{LocksAre}
+use Rattle.iso_state.specs.Stands.{Content, content_of, desk_at, world_of}
 use Rattle.iso_state.proofs.ByKind.{spends-after}
 use Rattle.iso_state.proofs.FactsAlong.{reserved-small}
-use Rattle.iso_state.proofs.LockWrites.{dropped-are}
+use Rattle.iso_queue.specs.Locks.{dropped}
 use Rattle.iso_state.proofs.Steps.{limits-after}
 use Rattle.iso_ends.proofs.ending.commit.Goals as goal
 
@@ -41,9 +42,9 @@ returns-clause-stands c =
     let k = committed (content_of p).chain c.args.conn (left (world_of p).records (unit_of (world_of p) c.args.conn)) in
     commit-place p c.move_to.new.parts c.args.conn c.requires.stands c.requires.open c.requires.conn c.requires.runs l
     (spends-after p m c.move_to.new.parts c.write_commit-left.ensures.room c.move_to.ensures.spends)
-    (dropped-are (world_of p).holds (world_of p).waits m.locks.places mid.places l.places c.args.conn
-    (subst (λ (x : Ledger). LocksAre (world_of p).holds (world_of p).waits x.places) (sym locks) c.requires.stands.parts.locks)
-    c.release_all.ensures.holds c.release_all.ensures.waits c.cancel.ensures.holds c.cancel.ensures.waits)
+    (c.cancel.ensures.lists (dropped c.args.conn (world_of p).holds) (world_of p).waits
+    (c.release_all.ensures.lists (world_of p).holds (world_of p).waits
+    (subst (λ (x : Ledger). LocksAre (world_of p).holds (world_of p).waits x) (sym locks) c.requires.stands.parts.locks)))
     (subst (λ (x : Ledger). IsSameLimits l x) locks (limits-after m.locks mid l c.release_all.ensures.limits c.cancel.ensures.limits))
     (c.move_to.ensures.wrote
     ∙ ap (λ (x : Content). seated (record x { locks = l; reserved = x.reserved - (c.write_commit-left.result + 2) }) c.args.conn

@@ -4,7 +4,6 @@ use Rattle.iso_history.specs.declared.entry.Act.TheVariants.{Refused}
 use Rattle.iso_history.specs.Writes.{minus}
 use Rattle.iso_state.specs.Stands.{world_of}
 use Rattle.iso_state.proofs.ByKind.{bare-full, bare-place, fault-was}
-use Rattle.iso_state.proofs.LockWrites.{settled-are}
 use Rattle.iso_locks.proofs.LockSteps.{refused-by}
 use Rattle.iso_locks.proofs.locking.refuse.Goals as goal
 
@@ -17,8 +16,7 @@ returns-clause-stands c =
     c.enter.ensures.spends c.requires.open c.requires.conn c.in_ok-make_room.ensures.ready
     (refused-by o.head (world_of o) c.args.conn c.args.name.now c.args.mode c.requires.runs c.requires.may c.requires.outcome c.requires.none)
     refl
-    (settled-are (world_of p).holds (world_of p).waits p.locks.places l.places c.args.conn None c.in_ok-make_room.ensures.stands.parts.locks
-    c.settle.ensures.holds c.settle.ensures.waits)
+    (c.settle.ensures.lists (world_of p).holds (world_of p).waits c.in_ok-make_room.ensures.stands.parts.locks)
     c.settle.ensures.limits c.enter.ensures.wrote
 
 pub returns-in_err-make_room-clause-full : goal.returns-in_err-make_room-clause-full

@@ -10,7 +10,6 @@ use Rattle.iso_types.specs.declared.desk.Phase.TheVariants.{Rolling}
 use Rattle.iso_state.specs.Changes.{seated}
 use Rattle.iso_state.specs.Stands.{Content, content_of, desk_at, world_of}
 use Rattle.iso_state.proofs.ByKind.{fault-was, timed_out-full, timed_out-place}
-use Rattle.iso_state.proofs.LockWrites.{settled-are}
 use Rattle.iso_locks.proofs.LockSteps.{asked-by}
 use Rattle.iso_locks.proofs.locking.time_out.Goals as goal
 
@@ -25,8 +24,7 @@ returns-clause-stands c =
     c.in_ok-make_room.ensures.ready c.requires.runs.0
     (asked-by o.head (world_of o) c.args.conn c.args.name.now c.args.mode c.requires.runs c.requires.may Got.TimedOut c.requires.outcome)
     refl
-    (settled-are (world_of p).holds (world_of p).waits p.locks.places l.places c.args.conn None c.in_ok-make_room.ensures.stands.parts.locks
-    c.settle.ensures.holds c.settle.ensures.waits)
+    (c.settle.ensures.lists (world_of p).holds (world_of p).waits c.in_ok-make_room.ensures.stands.parts.locks)
     c.settle.ensures.limits
     (c.move_to.ensures.wrote
     ∙ ap (λ (d : Desk). seated q c.args.conn (record d { phase = Rolling; doom = 68; claimed = false }) c.asked.result) c.desk_of.ensures

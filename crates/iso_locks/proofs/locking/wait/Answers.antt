@@ -11,7 +11,6 @@ use Rattle.iso_types.specs.declared.desk.Phase.{Phase}
 use Rattle.iso_state.specs.Changes.{relocked, seated}
 use Rattle.iso_state.specs.Stands.{Content, content_of, desk_at, world_of}
 use Rattle.iso_state.proofs.ByKind.{fault-was, queued-full, queued-place, spends-after}
-use Rattle.iso_state.proofs.LockWrites.{settled-are}
 use Rattle.iso_state.proofs.Steps.{limits-after}
 use Rattle.iso_locks.proofs.LockSteps.{asked-by}
 use Rattle.iso_locks.proofs.locking.wait.Goals as goal
@@ -29,8 +28,7 @@ returns-clause-stands c =
     c.requires.runs.0
     (asked-by o.head (world_of o) c.args.conn c.args.name.now c.args.mode c.requires.runs c.requires.may (Got.Queued c.args.to) c.requires.outcome)
     refl
-    (settled-are (world_of p).holds (queued (world_of p).holds waiting (world_of p).waits) m.locks.places l.places c.args.conn None c.in_ok-enqueue.ensures.ok
-    c.settle.ensures.holds c.settle.ensures.waits)
+    (c.settle.ensures.lists (world_of p).holds (queued (world_of p).holds waiting (world_of p).waits) c.in_ok-enqueue.ensures.ok)
     (limits-after p.locks m.locks l c.in_ok-enqueue.ensures.limits c.settle.ensures.limits)
     (c.move_to.ensures.wrote
     ∙ ap (λ (x : Content). seated (relocked x l) c.args.conn (record c.desk_of.result { phase = Phase.Waiting; claimed = false }) c.asked.result) c.in_ok-enqueue.ensures.content

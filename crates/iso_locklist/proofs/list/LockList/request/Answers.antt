@@ -6,16 +6,13 @@ use Rattle.iso_locklist.proofs.Counts.{counted, moved_name, needed}
 use Rattle.iso_locklist.proofs.Touched.{asked_other, asked_own}
 use Rattle.iso_locklist.proofs.Updates.{line_at_other, line_at_updated}
 use Rattle.iso_queue.specs.Lines.{asked, is_touched}
-use Rattle.iso_locklist.specs.Lists.{IsSingle}
-use Rattle.iso_locklist.proofs.Singles.{single_asked}
-use Rattle.std.proofs.Common.{None, subst, sym}
-use Rattle.iso_locklist.specs.Places.{wait_in}
+use Rattle.std.proofs.Common.{subst, sym}
 use Rattle.std.proofs.Common.{Bool}
-use Rattle.std.specs.Prelude.{count_by}
-use Rattle.iso_types.specs.Ids.{conn_eq}
-use Rattle.iso_locklist.specs.Lists.{IsAsked, grants_in, holds_in, waits_in}
+use Rattle.iso_locklist.specs.Lists.{IsAsked, grants_in}
 use Rattle.iso_locklist.specs.Places.{are_apart, names}
-use Rattle.iso_locklist.proofs.AskedLists.{asked_lists, granted_told}
+use Rattle.iso_locklist.proofs.AskedLists.{asked_lists}
+use Rattle.iso_locklist.specs.Holding.{AreLines}
+use Rattle.iso_locklist.proofs.Holding.{asked_are, grants_shown}
 use Rattle.iso_locklist.proofs.list.LockList.request.Goals as goal
 
 pub invariant_of-self-2 : goal.invariant_of-self-2
@@ -45,24 +42,18 @@ pub returns-clause-others : goal.returns-clause-others
 returns-clause-others c = λ n ne.
     ap (λ (ps : List Place). line_at ps n) c.in-Ok.ensures.places ∙ line_at_other _ _ n _ ne ∙ ap (λ (l : Ledger). line_at l.places n) c.self.view_is
 
-pub returns-clause-single : goal.returns-clause-single
-returns-clause-single c = λ none d is.
-    subst (λ (ps : List Place). IsSingle ps d) (sym c.in-Ok.ensures.places)
-    (single_asked c.self.inside.places.items c.args.name c.args.conn c.args.mode c.args.term d
-    (subst (λ (l : Ledger). wait_in l.places c.args.conn ≡ None) (sym c.self.view_is) none) (subst (λ (l : Ledger). IsSingle l.places d) (sym c.self.view_is) is))
-
 pub returns-clause-lists : goal.returns-clause-lists
-returns-clause-lists c = λ none.
+returns-clause-lists c = λ hs xs are idle.
     let old = c.self.inside.places.items in
     let line = line_at old c.args.name in
-    let told = granted_told old c.args.conn c.args.name c.args.mode c.self.invariant.apart
-    (subst (λ (l : Ledger). count_by (λ x. conn_eq x.conn c.args.conn) (waits_in l.places) ≡ 0) (sym c.self.view_is) none) in
-    subst (λ (l : Ledger). IsAsked (grants_in (holds_in l.places)
-    (waits_in l.places) c.args.conn c.args.name c.args.mode) l.places c.ask.new.places.items c.args.conn c.args.name
-    c.args.mode c.args.term) c.self.view_is
-    (subst (λ (b : Bool). IsAsked b old c.ask.new.places.items c.args.conn c.args.name c.args.mode c.args.term) told
-    (asked_lists old c.ask.new.places.items c.args.conn c.args.name c.args.mode c.args.term c.self.invariant.apart
-    (ap (λ (ps : List Place). are_apart (names ps)) c.in-Ok.ensures.places
-    ∙ apart_updated old c.args.name (asked line c.args.conn c.args.mode c.args.term) c.self.invariant.apart)
+    let are' = subst (λ (l : Ledger). AreLines hs xs (line_at l.places)) (sym c.self.view_is) are in
+    let still = ap (λ (ps : List Place). are_apart (names ps)) c.in-Ok.ensures.places
+    ∙ apart_updated old c.args.name (asked line c.args.conn c.args.mode c.args.term) c.self.invariant.apart in
+    let told = grants_shown old c.self.invariant.apart hs xs are' c.args.conn c.args.name c.args.mode idle in
+    let asked = asked_lists old c.ask.new.places.items c.args.conn c.args.name c.args.mode c.args.term c.self.invariant.apart still
     (ap (λ (ps : List Place). line_at ps c.args.name) c.in-Ok.ensures.places ∙ line_at_updated _ _ _)
-    (λ n ne. ap (λ (ps : List Place). line_at ps n) c.in-Ok.ensures.places ∙ line_at_other _ _ n _ ne)))
+    (λ n ne. ap (λ (ps : List Place). line_at ps n) c.in-Ok.ensures.places ∙ line_at_other _ _ n _ ne) in
+    let both = asked_are old c.ask.new.places.items c.self.invariant.apart still hs xs are' c.args.conn c.args.name c.args.mode c.args.term
+    (grants_in hs xs c.args.conn c.args.name c.args.mode)
+    (subst (λ (b : Bool). IsAsked b old c.ask.new.places.items c.args.conn c.args.name c.args.mode c.args.term) told asked) in
+    record { granted_are = both.0; queued_are = both.1 }
