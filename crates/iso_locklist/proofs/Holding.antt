@@ -3,15 +3,15 @@ use Rattle.std.proofs.Common.{◌≡◌, ◌≤◌, Bool, true, false, not, ◌&
 use Rattle.std.specs.List.{list_any}
 use Rattle.std.specs.Option.{option_map, option_map_or}
 use Rattle.std.specs.Prelude.{count_by, filter, find, if◌then◌else◌, is_some, take_while, ◌++◌, Option, None, Some}
-use Rattle.iso_locklist.specs.Holding.{AreLines, AreOfHead, WaitsOnce}
+use Rattle.iso_locklist.specs.Holding.{AreLines, AreOfHead, WaitsOnce, settled_beside}
 use Rattle.iso_locklist.specs.Lists.{HoldsAlike, IsAsked, IsClaimed, IsSingleIn, WaitsAlike, asked_for, claimed_holds, claimed_waits, grants_in, holds_in, named_hold, named_wait, waiting_for, waits_in}
-use Rattle.iso_locklist.specs.Places.{all_taken, are_apart, cancelled, edges_in, is_grantable_in, is_spared as spares, line_at, names, nobody, one, released, taken, wait_in}
+use Rattle.iso_locklist.specs.Places.{all_taken, are_apart, cancelled, edges_in, is_grantable_in, is_in, is_spared as spares, line_at, names, nobody, one, released, taken, wait_in}
 use Rattle.iso_locklist.specs.declared.places.Place.{Place}
 use Rattle.iso_locklist.proofs.Alike.{alike_count, alike_filter, swap}
 use Rattle.iso_locklist.proofs.AlikeClaims.{alike_claimed_holds, alike_claimed_waits}
 use Rattle.iso_locklist.proofs.AlikeHolds.{alike_added, alike_covered, alike_hold_on, filter_like}
 use Rattle.iso_locklist.proofs.AlikeWaits.{ahead_at, alike_all_taken, alike_grantable, alike_queued, alike_taken, alike_wait_of, alike_would_wait, beside, none_beside, own, own_conn}
-use Rattle.iso_locklist.proofs.Lists.{any_map, any_seek, holds_of_name, is_hold, name_is, seek, seek_map, waits_of_name}
+use Rattle.iso_locklist.proofs.Lists.{any_map, any_seek, holds_of_name, is_hold, name_is, seek, seek_map, table_like, waits_of_name}
 use Rattle.iso_locklist.proofs.Names.{name_same}
 use Rattle.iso_locklist.proofs.Settles.{gone, kept}
 use Rattle.iso_locklist.proofs.SettledLists.{brief_goes, briefs_settled, briefs_were}
@@ -31,10 +31,14 @@ use Rattle.iso_queue.specs.Limits as limits
 use Rattle.iso_queue.specs.Lines as lines
 use Rattle.iso_queue.specs.Lines.{Line, bits_of, hold_of, is_guarded_against}
 use Rattle.iso_queue.specs.Locks as locks
-use Rattle.iso_queue.specs.Locks.{Hold, dropped, freed, hold_on, is_hold_of, others_guard, settled, settled_one, without_briefs}
+use Rattle.iso_queue.specs.Locks.{Hold, collapsed, dropped, freed, hold_on, is_hold_of, others_guard, settled, settled_one, without_briefs}
 use Rattle.iso_queue.specs.Queues.{Wait, ahead, blockers, is_grantable, is_waiting, opposes, queue, queued, unqueued, wait_of}
 use Rattle.iso_queue.specs.declared.types.Hold.{Hold as Holder}
-use Rattle.iso_types.specs.Ids.{conn_eq, name_eq}
+use Rattle.iso_types.specs.Head.{is_on}
+use Rattle.iso_types.specs.Ids.{conn_eq, name_eq, table_eq}
+use Rattle.iso_types.specs.declared.head.IndexDef.{IndexDef}
+use Rattle.iso_types.specs.declared.value.TableId.{TableId}
+use Rattle.iso_locklist.specs.declared.places.Scope.TheVariants.{Beside, OnTable}
 use Rattle.iso_types.specs.declared.head.Head.{Head}
 use Rattle.iso_types.specs.declared.value.Conn.{Conn}
 use Rattle.iso_types.specs.declared.value.Name.{Name}
@@ -325,19 +329,120 @@ module _ (ps qs : List Place) (unlike : are_apart (names ps) ≡ true) (still : 
     pub asked_are : (granted : Bool) → IsAsked granted ps qs c n m t
         → (granted ≡ true → AreLines (locks.added hs c (asked_for n m t)) xs (line_at qs))
         × (granted ≡ false → AreLines hs (queued hs (waiting_for hs c n m t) xs) (line_at qs))
-    asked_are true asked =
-        ((λ e. alike_are qs still (locks.added hs c (asked_for n m t)) xs
-        (λ k. asked.holds k ∙ alike_added (holds_in ps) hs (holds_like ps unlike hs xs are) c (asked_for n m t) k)
-        (λ k. asked.waits k ∙ waits_like ps unlike hs xs are k)), (λ e. cc e))
-    asked_are false asked =
-        ((λ e. cc e), (λ e. alike_are qs still hs (queued hs (waiting_for hs c n m t) xs)
-        (λ k. asked.holds k ∙ holds_like ps unlike hs xs are k)
-        (λ k. asked.waits k
-        ∙ ap (λ (x : Wait). queue (queued (holds_in ps) x (waits_in ps)) k) (same_wait)
-        ∙ alike_queued (holds_in ps) hs (holds_like ps unlike hs xs are) (waits_in ps) xs (waits_like ps unlike hs xs are) (waiting_for hs c n m t) k)))
+    asked_are true asked = (
+      (λ e. alike_are qs still (locks.added hs c (asked_for n m t)) xs
+          (λ k. asked.holds k ∙ alike_added (holds_in ps) hs (holds_like ps unlike hs xs are) c (asked_for n m t) k)
+          (λ k. asked.waits k ∙ waits_like ps unlike hs xs are k)),
+      (λ e. cc e),
+    )
+    asked_are false asked = (
+      (λ e. cc e),
+      (λ e. alike_are qs still hs (queued hs (waiting_for hs c n m t) xs)
+          (λ k. asked.holds k ∙ holds_like ps unlike hs xs are k)
+          (λ k. asked.waits k
+          ∙ ap (λ (x : Wait). queue (queued (holds_in ps) x (waits_in ps)) k) (same_wait)
+          ∙ alike_queued (holds_in ps) hs (holds_like ps unlike hs xs are) (waits_in ps) xs (waits_like ps unlike hs xs are) (waiting_for hs c n m t) k)),
+    )
       where
         same_wait : waiting_for (holds_in ps) c n m t ≡ waiting_for hs c n m t
         same_wait =
             let same : locks.held (holds_in ps) c n ≡ locks.held hs c n =
             ap (option_map (λ (h : Hold). h.mode)) (alike_hold_on (holds_in ps) hs (holds_like ps unlike hs xs are) c n) in
             rw same refl
+
+-- ---- what is done in some lines
+pub still_nobody : (b : Bool) → (if b then nobody else nobody) ≡ nobody
+still_nobody true = refl
+still_nobody false = refl
+
+holds_by : (b : Bool) (q r : Line) → (if b then q else r).holders ≡ (if b then q.holders else r.holders)
+holds_by true q r = refl
+holds_by false q r = refl
+
+module _ (hs : List Hold) (xs : List Wait) (old new : Name → Line) (are : AreLines hs xs old) (c : Conn) where
+  -- the holds of the connection on a table's rows and keys go
+  pub lines_collapsed : (head : Head) (ts : List TableId) → ts ≡ map (λ (d : IndexDef). d.table) head.indexes → (t : TableId)
+      → ((n : Name) → new n ≡ (if is_in ts (OnTable t) n then released (old n) c else old n))
+      → AreLines (collapsed head c t hs) xs new
+  lines_collapsed head ts tables t done = record {
+    holds = λ n. by n (is_on head t n) refl ∙ ap (filter goes) (are.holds n) ∙ swap goes (λ h. name_eq h.name n) hs;
+    waits = λ n. awaited n (is_in ts (OnTable t) n) (done n) ∙ are.waits n;
+  }
+    where
+      goes : Hold → Bool
+      goes h = not (conn_eq h.conn c && is_on head t h.name)
+
+      inside : (n : Name) → is_in ts (OnTable t) n ≡ is_on head t n
+      inside n = ap (λ (us : List TableId). is_in us (OnTable t) n) tables ∙ ap (λ (o : Option TableId). option_map_or (λ u. table_eq u t) o false) (table_like head n)
+
+      by : (n : Name) (b : Bool) → is_on head t n ≡ b → map (named_hold n) (new n).holders ≡ filter goes (map (named_hold n) (old n).holders)
+      by n true e =
+          ap (λ (q : Line). map (named_hold n) q.holders) (done n ∙ ap (λ (b : Bool). if b then released (old n) c else old n) (inside n ∙ e))
+          ∙ ap (map (named_hold n)) (filter_like (λ (h : Holder). not (conn_eq h.conn c)) (λ h. goes (named_hold n h)) (old n).holders
+          (λ h. sym (ap (λ (b : Bool). not (conn_eq h.conn c && b)) e ∙ and_one (conn_eq h.conn c))))
+          ∙ sym (filter_map_on goes (named_hold n) (old n).holders)
+      by n false e =
+          ap (λ (q : Line). map (named_hold n) q.holders) (done n ∙ ap (λ (b : Bool). if b then released (old n) c else old n) (inside n ∙ e))
+          ∙ ap (map (named_hold n)) (sym (all_stay (λ (h : Holder). goes (named_hold n h)) (old n).holders
+          (λ h. ap (λ (b : Bool). not (conn_eq h.conn c && b)) e ∙ and_none (conn_eq h.conn c))))
+          ∙ sym (filter_map_on goes (named_hold n) (old n).holders)
+
+      awaited : (n : Name) (b : Bool) → new n ≡ (if b then released (old n) c else old n) → map (named_wait n) (new n).waiters ≡ map (named_wait n) (old n).waiters
+      awaited n true e = ap (λ (q : Line). map (named_wait n) q.waiters) e
+      awaited n false e = ap (λ (q : Line). map (named_wait n) q.waiters) e
+
+  -- its holds on all names but one are settled
+  pub lines_beside : (spare : Option Name) (m : Name)
+      → ((n : Name) → new n ≡ (if is_in [] (Beside m) n then lines.settled (old n) c (spares spare n) else old n))
+      → AreLines (settled_beside c spare m hs) xs new
+  lines_beside spare m done = record {
+    holds = λ n. by n (name_eq m n) refl
+        ∙ ap (λ (l : List Hold). filter stay (map settle l)) (are.holds n)
+        ∙ ap (filter stay) (sym (settled_at n hs))
+        ∙ swap stay (λ h. name_eq h.name n) (map settle hs);
+    waits = λ n. awaited n (not (name_eq m n)) (done n) ∙ are.waits n;
+  }
+    where
+      stay : Hold → Bool
+      stay h = name_eq m h.name || not (conn_eq h.conn c && is_brief h.term)
+
+      settle : Hold → Hold
+      settle h = if name_eq m h.name then h else settled_one c spare h
+
+      awaited : (n : Name) (b : Bool) → new n ≡ (if b then lines.settled (old n) c (spares spare n) else old n) → map (named_wait n) (new n).waiters ≡ map (named_wait n) (old n).waiters
+      awaited n true e = ap (λ (q : Line). map (named_wait n) q.waiters) e
+      awaited n false e = ap (λ (q : Line). map (named_wait n) q.waiters) e
+
+      one_named : (h : Hold) (n : Name) (a b : Bool) → name_eq (if a then h else if b then record h { term = Kept } else h).name n ≡ name_eq h.name n
+      one_named h n true b = refl
+      one_named h n false true = refl
+      one_named h n false false = refl
+
+      settled_at : (n : Name) (gs : List Hold) → filter (λ h. name_eq h.name n) (map settle gs) ≡ map settle (filter (λ h. name_eq h.name n) gs)
+      settled_at n gs = filter_map_on (λ (h : Hold). name_eq h.name n) settle gs
+          ∙ ap (map settle) (filter_like (λ (h : Hold). name_eq (settle h).name n) (λ h. name_eq h.name n) gs
+          (λ h. one_named h n (name_eq m h.name) (conn_eq h.conn c && (is_fresh h.term && not (locks.is_spared spare h)))))
+
+      map_none : {X : Type 0} (f : X → X) (l : List X) → ((x : X) → f x ≡ x) → map f l ≡ l
+      map_none f [] same = refl
+      map_none f (x ∷ l) same = rw (same x, map_none f l same) refl
+
+      one_settled : (n : Name) (h : Holder) → name_eq m n ≡ false → (b : Bool) → (conn_eq h.conn c && (is_fresh h.term && not (spares spare n))) ≡ b
+          → named_hold n (lines.settled_hold c (spares spare n) h) ≡ settle (named_hold n h)
+      one_settled n h e true f = rw (e, f) refl
+      one_settled n h e false f = rw (e, f) refl
+
+      by : (n : Name) (b : Bool) → name_eq m n ≡ b → map (named_hold n) (new n).holders ≡ filter stay (map settle (map (named_hold n) (old n).holders))
+      by n true e =
+          ap (λ (q : Line). map (named_hold n) q.holders) (done n ∙ ap (λ (b : Bool). if not b then lines.settled (old n) c (spares spare n) else old n) e)
+          ∙ sym (ap (filter stay) (sym (map_maps (λ (h : Holder). h) (named_hold n) settle (old n).holders (λ h. sym (ap (λ (b : Bool). if b then named_hold n h else settled_one c spare (named_hold n h)) e)))
+          ∙ ap (map (named_hold n)) (map_none (λ (h : Holder). h) (old n).holders (λ h. refl)))
+          ∙ filter_map_on stay (named_hold n) (old n).holders
+          ∙ ap (map (named_hold n)) (all_stay (λ (h : Holder). stay (named_hold n h)) (old n).holders (λ h. ap (λ (b : Bool). b || not (conn_eq h.conn c && is_brief h.term)) e)))
+      by n false e =
+          ap (λ (q : Line). map (named_hold n) q.holders) (done n ∙ ap (λ (b : Bool). if not b then lines.settled (old n) c (spares spare n) else old n) e)
+          ∙ ap (map (named_hold n)) (filter_like (λ (h : Holder). not (conn_eq h.conn c && is_brief h.term)) (λ h. stay (named_hold n h)) (map (lines.settled_hold c (spares spare n)) (old n).holders)
+          (λ h. sym (ap (λ (b : Bool). b || not (conn_eq h.conn c && is_brief h.term)) e)))
+          ∙ sym (filter_map_on stay (named_hold n) (map (lines.settled_hold c (spares spare n)) (old n).holders))
+          ∙ ap (filter stay) (map_maps (lines.settled_hold c (spares spare n)) (named_hold n) settle (old n).holders
+          (λ h. one_settled n h e (conn_eq h.conn c && (is_fresh h.term && not (spares spare n))) refl))

@@ -15,7 +15,6 @@ pub mod Listed
 pub mod Ordered
 pub mod Shown
 pub mod AlikeSnapshots
-pub mod Singles
 pub mod Totals
 pub mod Ends
 pub mod Alike
@@ -27,3 +26,4 @@ pub mod SettledLists
 pub mod SingleLists
 pub mod AlikeClaims
 pub mod Holding
+pub mod NewNames

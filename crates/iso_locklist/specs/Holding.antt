@@ -1,15 +1,19 @@
 -- When a lock list stands for a history's holds and waits. Nothing of how names are kept is told.
+use Rattle.std.specs.List.{list_any}
 use Rattle.std.specs.Option.{option_map_or}
-use Rattle.std.specs.Prelude.{◌≡◌, ◌≤◌, ℕ, Bool, List, true, false, count_by, filter, length, map}
+use Rattle.std.specs.Prelude.{◌≡◌, ◌≤◌, ℕ, Bool, List, [], ◌∷◌, true, false, count_by, filter, length, map, not, Option, if◌then◌else◌, ◌&&◌, ◌||◌}
 use Rattle.iso_locklist.specs.Lists.{IsHeadsIn, IsSingleIn, asked_for, named_hold, named_wait, waiting_for}
 use Rattle.iso_locklist.specs.Places.{Ledger, line_at, room_by}
+use Rattle.iso_locklist.specs.declared.places.Asking.{Asking}
 use Rattle.iso_locklist.specs.declared.room.Room.{Room}
 use Rattle.iso_modes.specs.Modes.{mode_eq}
+use Rattle.iso_modes.specs.Terms.{is_brief}
 use Rattle.iso_modes.specs.declared.Mode.{Mode}
 use Rattle.iso_modes.specs.declared.Term.{Term}
+use Rattle.iso_modes.specs.declared.Term.TheVariants.{Kept}
 use Rattle.iso_queue.specs.Limits.{all_taken, taken}
 use Rattle.iso_queue.specs.Lines.{Line}
-use Rattle.iso_queue.specs.Locks.{Hold, added, held, target}
+use Rattle.iso_queue.specs.Locks.{Hold, added, held, settled_one, target}
 use Rattle.iso_queue.specs.Queues.{Wait, queue, queued}
 use Rattle.iso_types.specs.Ids.{conn_eq, name_eq}
 use Rattle.iso_types.specs.declared.head.Head.{Head}
@@ -56,3 +60,24 @@ pub record AreOfHead (head : Head) (hs : List Hold) (xs : List Wait) : Type 0 wh
 pub record AreAsked (granted : Bool) (hs : List Hold) (xs : List Wait) (c : Conn) (n : Name) (m : Mode) (t : Term) (l : Ledger) : Type 0 where
   pub granted_are : granted ≡ true → LocksAre (added hs c (asked_for n m t)) xs l
   pub queued_are : granted ≡ false → LocksAre hs (queued hs (waiting_for hs c n m t) xs) l
+
+-- the connection's holds on all names but one are settled
+abbrev pub settled_beside : Conn → Option Name → Name → List Hold → List Hold
+settled_beside c spare m holds =
+    filter (λ h. name_eq m h.name || not (conn_eq h.conn c && is_brief h.term))
+    (map (λ h. if name_eq m h.name then h else settled_one c spare h) holds)
+
+-- nobody holds or awaits the name
+pub record IsNew (hs : List Hold) (xs : List Wait) (n : Name) : Type 0 where
+  pub held : filter (λ h. name_eq h.name n) hs ≡ []
+  pub awaited : queue xs n ≡ []
+
+-- nobody holds or awaits one of the names, and no two of them are the same
+abbrev pub AreNew : List Hold → List Wait → List Asking → Type 0
+AreNew hs xs [] = Unit {0}
+AreNew hs xs (a ∷ asks) = IsNew hs xs a.name × (list_any (λ b. name_eq a.name b.name) asks ≡ false) × AreNew hs xs asks
+
+-- the holds with each of them added, as one that is kept
+abbrev pub all_added : List Hold → Conn → List Asking → List Hold
+all_added hs c [] = hs
+all_added hs c (a ∷ asks) = all_added (added hs c (asked_for a.name a.mode Kept)) c asks

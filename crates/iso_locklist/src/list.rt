@@ -1,11 +1,12 @@
-ghost use Rattle.std.specs.Prelude.{List, ◌≡◌, ◌<◌, ◌≤◌, [], IfOk, OnOk, OnErr, false, if◌then◌else◌, None, count_by, filter, length, map, slice_index_or, slice_set};
-ghost use Rattle.iso_locklist.specs.Holding.{AreAsked, AreOfHead, HasTables, LocksAre, WaitsOnce, room_in_lists};
-ghost use Rattle.iso_locklist.specs.Lists.{IsHeads, IsHeadsIn, IsSingle, IsSingleIn, StaySingle, claimed_holds, claimed_waits, grants_in, holds_in, named_hold, named_wait, waits_in};
-ghost use Rattle.iso_locklist.specs.Places.{IsLimited, IsSameLimits, all_taken, cancelled, each_line, edges_in, is_covered, is_grantable_in, is_spared, line_at, need_of, released, room_for, room_to_ask, taken, wait_in, changed};
+ghost use Rattle.std.specs.Prelude.{drop, List, ◌≡◌, ◌<◌, ◌≤◌, [], IfOk, OnOk, OnErr, false, if◌then◌else◌, None, count_by, filter, length, map, slice_index_or, slice_set};
+ghost use Rattle.iso_locklist.specs.Holding.{AreAsked, AreNew, AreOfHead, IsNew, all_added, HasTables, LocksAre, WaitsOnce, room_in_lists, settled_beside};
+ghost use Rattle.iso_locklist.specs.Lists.{asked_for, IsHeads, IsHeadsIn, IsSingle, IsSingleIn, StaySingle, claimed_holds, claimed_waits, grants_in, holds_in, named_hold, named_wait, waits_in};
+ghost use Rattle.iso_locklist.specs.Places.{IsLimited, IsSameLimits, all_taken, cancelled, each_line, edges_in, is_covered, is_grantable_in, is_spared, line_at, need_of, released, room_for, room_to_ask, taken, wait_in, changed, changed_in};
 ghost use Rattle.iso_locklist.specs.declared.places.Place.{Place as Entry};
 ghost use Rattle.iso_queue.specs.Lines.{asked, bits_of, claimed, hold_of, is_granted, is_guarded_against, is_used, settled, wait_for, would_wait};
-ghost use Rattle.iso_queue.specs.Locks.{Hold as Held, dropped, freed, hold_on, others_guard, without_briefs};
+ghost use Rattle.iso_queue.specs.Locks.{Hold as Held, added, collapsed, dropped, freed, hold_on, others_guard, without_briefs};
 ghost use Rattle.iso_queue.specs.Limits as limits;
+ghost use Rattle.iso_modes.specs.declared.Term.TheVariants as Terms;
 ghost use Rattle.iso_queue.specs.Locks as locks;
 ghost use Rattle.iso_queue.specs.Queues as queues;
 ghost use Rattle.iso_queue.specs.Queues.{Wait as Awaiting, is_waiting, queue, unqueued, wait_of};
@@ -22,8 +23,8 @@ ghost use Rattle.iso_types.specs.declared.head.Head.{Head as Declared};
 
 use crate::covering::{index_tables, table_of};
 use crate::places::{
-    Change, Place, ask, change_at, claim_all, find_place, find_wait, holds_mode, need, queue_of,
-    would_grant,
+    Asking, Change, Place, Scope, ask, change_at, claim_all, find_place, find_wait, holds_mode,
+    is_in, need, queue_of, would_grant,
 };
 use crate::room::{LockFault, Room, room_beside, room_in};
 use crate::snapshot::{in_order, list_lines};
@@ -213,6 +214,60 @@ impl LockList {
         Ok(asked)
     }
 
+    /// Requests the modes on names that nobody holds or awaits, each to be kept: all are granted, or none is. `AtShare`,
+    /// `AtCapacity`: one of them is at that limit. `Memory`: want of memory. After a fault the holds and waits are as before.
+    /// Its cost is that of as many requests.
+    pub fn request_new(&mut self, conn: Conn, requests: &[Asking]) -> Result<(), LockFault>
+        requires { conn.0 < 32 }
+        ensures lists { (hs : List Held) (xs : List Awaiting) → LocksAre hs xs self.old → is_waiting xs conn ≡ false → AreNew hs xs requests.now → OnOk result (LocksAre (all_added hs conn requests.now) xs self.new) }
+        ensures limits { IsSameLimits self.new self.old }
+        ensures err { (hs : List Held) (xs : List Awaiting) → LocksAre hs xs self.old → is_waiting xs conn ≡ false → AreNew hs xs requests.now → OnErr result (LocksAre hs xs self.new) }
+    {
+        self.request_from(conn, requests, 0)
+    }
+
+    /// Requests the mode on a name that nobody holds or awaits, to be kept.
+    fn request_kept(&mut self, conn: Conn, name: &Name, mode: Mode) -> Result<(), LockFault>
+        requires { conn.0 < 32 }
+        ensures lists { (hs : List Held) (xs : List Awaiting) → LocksAre hs xs self.old → is_waiting xs conn ≡ false → IsNew hs xs name.now → OnOk result (LocksAre (added hs conn (asked_for name.now mode Terms.Kept)) xs self.new) }
+        ensures limits { IsSameLimits self.new self.old }
+        ensures err { OnErr result (self.new ≡ self.old) }
+    {
+        self.request(conn, *name, mode, Term::Kept)?;
+        Ok(())
+    }
+
+    /// The connection's hold on the name goes.
+    fn release_one(&mut self, conn: Conn, name: &Name)
+        requires { conn.0 < 32 }
+        ensures lists { (hs : List Held) (xs : List Awaiting) → LocksAre hs xs self.old → LocksAre (freed conn name.now hs) xs self.new }
+        ensures limits { IsSameLimits self.new self.old }
+    {
+        self.release(conn, *name);
+    }
+
+    /// The same from this place on.
+    fn request_from(&mut self, conn: Conn, requests: &[Asking], at: usize) -> Result<(), LockFault>
+        requires conn { conn.0 < 32 }
+        requires at { at ≤ length requests.now }
+        ensures lists { (hs : List Held) (xs : List Awaiting) → LocksAre hs xs self.old → is_waiting xs conn ≡ false → AreNew hs xs (drop at requests.now) → OnOk result (LocksAre (all_added hs conn (drop at requests.now)) xs self.new) }
+        ensures limits { IsSameLimits self.new self.old }
+        ensures err { (hs : List Held) (xs : List Awaiting) → LocksAre hs xs self.old → is_waiting xs conn ≡ false → AreNew hs xs (drop at requests.now) → OnErr result (LocksAre hs xs self.new) }
+    {
+        if at == requests.len() {
+            return Ok(());
+        }
+        let asking = &requests[at];
+        self.request_kept(conn, &asking.name, asking.mode)?;
+        match self.request_from(conn, requests, at + 1) {
+            Ok(()) => Ok(()),
+            Err(fault) => {
+                self.release_one(conn, &asking.name);
+                Err(fault)
+            }
+        }
+    }
+
     /// The connection's hold on the name goes. It takes no memory. Its cost is the number of names, and of those who hold
     /// or await the name.
     pub fn release(&mut self, conn: Conn, name: Name)
@@ -235,7 +290,7 @@ impl LockList {
         ensures lists { (hs : List Held) (xs : List Awaiting) → LocksAre hs xs self.old → LocksAre (dropped conn hs) xs self.new }
         ensures limits { IsSameLimits self.new self.old }
     {
-        self.change_all(conn, &Change::Release);
+        self.change_all(conn, &Change::Release, &Scope::Each);
     }
 
     /// Each Fresh hold of the connection becomes Kept, but on the name that is spared, and then its Brief holds go; all else
@@ -246,7 +301,26 @@ impl LockList {
         ensures lists { (hs : List Held) (xs : List Awaiting) → LocksAre hs xs self.old → LocksAre (without_briefs hs conn (locks.settled conn spare hs)) xs self.new }
         ensures limits { IsSameLimits self.new self.old }
     {
-        self.change_all(conn, &Change::Settle(spare));
+        self.change_all(conn, &Change::Settle(spare), &Scope::Each);
+    }
+
+    /// The same, but for a hold that was placed in this step on a name that the connection did not hold: it stays as it is.
+    pub fn settle_beside(&mut self, conn: Conn, spare: Option<Name>, placed: Name)
+        requires { conn.0 < 32 }
+        ensures lists { (hs : List Held) (xs : List Awaiting) → LocksAre hs xs self.old → LocksAre (settled_beside conn spare placed hs) xs self.new }
+        ensures limits { IsSameLimits self.new self.old }
+    {
+        self.change_all(conn, &Change::Settle(spare), &Scope::Beside(placed));
+    }
+
+    /// The connection's holds on the rows and keys of the table go; its hold on the table stays, and so does its wait. It
+    /// takes no memory. Its cost is the number of names and of all who hold or await them. Db2 LUW, 'Lock escalation'.
+    pub fn collapse(&mut self, conn: Conn, table: TableId)
+        requires { conn.0 < 32 }
+        ensures lists { (head : Declared) (hs : List Held) (xs : List Awaiting) → HasTables head self.old → LocksAre hs xs self.old → LocksAre (collapsed head conn table hs) xs self.new }
+        ensures limits { IsSameLimits self.new self.old }
+    {
+        self.change_all(conn, &Change::Release, &Scope::OnTable(table));
     }
 
     /// The connection's wait goes, on whatever name it waits; its holds stay. It takes no memory. Its cost is the number
@@ -257,7 +331,7 @@ impl LockList {
         ensures lists { (hs : List Held) (xs : List Awaiting) → LocksAre hs xs self.old → LocksAre hs (unqueued conn xs) self.new }
         ensures limits { IsSameLimits self.new self.old }
     {
-        self.change_all(conn, &Change::Cancel);
+        self.change_all(conn, &Change::Cancel, &Scope::Each);
     }
 
     /// Grants the connection's wait where it has no edge, with what the connection held before; else nothing changes.
@@ -393,14 +467,27 @@ impl LockList {
         self.total -= freed;
     }
 
-    /// Changes the connection's part in each line.
-    fn change_all(&mut self, conn: Conn, change: &Change)
+    /// The same, where the line is one of those that are changed.
+    fn change_in(&mut self, at: usize, conn: Conn, change: &Change, scope: &Scope)
+        requires conn { conn.0 < 32 }
+        requires at { at < length self.old.places }
+        ensures places { (p : Entry) → p ≡ slice_index_or self.old.places at p → self.new.places ≡ slice_set self.old.places at (record { name = p.name; queue = changed_in self.old.index_tables scope.now change.now conn p.name p.queue }) }
+        ensures limits { IsSameLimits self.new self.old }
+    {
+        let changes = is_in(self.index_tables.as_slice(), scope, &self.places[at].name);
+        if changes {
+            self.change_at(at, conn, change);
+        }
+    }
+
+    /// Changes the connection's part in each of these lines.
+    fn change_all(&mut self, conn: Conn, change: &Change, scope: &Scope)
         requires { conn.0 < 32 }
-        ensures places { self.new.places ≡ each_line (changed change.now conn) self.old.places }
+        ensures places { self.new.places ≡ each_line (changed_in self.old.index_tables scope.now change.now conn) self.old.places }
         ensures limits { IsSameLimits self.new self.old }
     {
         for at in 0..self.places.len() {
-            self.change_at(at, conn, change);
+            self.change_in(at, conn, change, scope);
         }
     }
 }
