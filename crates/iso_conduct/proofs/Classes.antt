@@ -20,12 +20,13 @@ use Rattle.iso_types.specs.declared.value.Rid.{Rid}
 use Rattle.iso_types.specs.declared.value.TableId.{TableId}
 use Rattle.iso_types.specs.declared.value.Value.{Value}
 
--- steps of a scan, an undo, a return to a mark, and others
+-- steps of a scan, an undo, a return to a mark, a Claim, and others
 abbrev pub class : Move → ℕ
 class (Move.Look t r want) = 1
 class (Move.Next i range at guarded) = 1
 class (Move.Undo floor) = 2
 class (Move.Back name) = 3
+class Move.Claim = 4
 class m = 0
 
 -- the same of stages
@@ -88,10 +89,16 @@ done-answer (Move.Look t r want) a e = cc
 done-answer (Move.Next i range at guarded) a e = cc
 done-answer _ a e = cc
 
-granted-answer : (m : Move) → answers m Told.Granted ≡ true → class m ≡ 1 → ⊥
-granted-answer (Move.Look t r want) a e = cc
-granted-answer (Move.Next i range at guarded) a e = cc
-granted-answer _ a e = cc
+granted-answer : (m : Move) → answers m Told.Granted ≡ true → class m ≡ 4
+granted-answer Move.Claim a = refl
+granted-answer _ a = cc
+
+-- no stage is a Claim
+stage-claim : (stage : Stage) → stage_class stage ≡ 4 → ⊥
+stage-claim Stage.Scan e = cc
+stage-claim (Stage.Undos floor end) e = cc
+stage-claim (Stage.Backs name) e = cc
+stage-claim _ e = cc
 
 stage-scan : (stage : Stage) → stage_class stage ≡ 1 → stage ≡ Stage.Scan
 stage-scan Stage.Scan e = refl
@@ -119,5 +126,6 @@ module _ (kept : Haul) (c : Course) (s : IsSoundAt c.stage c) where
   pub at-done : answers (due_by kept (staged c)) Told.Done ≡ true → c.stage ≢ Stage.Scan
   at-done a e = done-answer (due_by kept (staged c)) a (due-class kept c c.stage s ∙ ap stage_class e)
 
-  pub at-granted : answers (due_by kept (staged c)) Told.Granted ≡ true → c.stage ≢ Stage.Scan
-  at-granted a e = granted-answer (due_by kept (staged c)) a (due-class kept c c.stage s ∙ ap stage_class e)
+  -- without a Claim in front nothing is granted
+  pub at-granted : answers (due_by kept (staged c)) Told.Granted ≡ true → ⊥
+  at-granted a = stage-claim c.stage (sym (due-class kept c c.stage s) ∙ granted-answer (due_by kept (staged c)) a)

@@ -1,6 +1,6 @@
 -- What a stage's list begins with.
-use Rattle.std.proofs.Common.{◌≡◌, ℕ, ◌+◌, ◌<◌, List, [], ◌∷◌, length, drop, refl, sym, ap, ◌∙◌, subst, Option, Some, None, Result, Ok, Err, drop-cons, add-one, ℤ}
-use Rattle.iso_conduct.specs.Courses.{GivesRow, IsAssigned, IsSoundAt, change_by, change_of, columns_in, found_at, left_at, pair_of, pairs_of, part_of, staged}
+use Rattle.std.proofs.Common.{◌≡◌, Bool, true, ◌&&◌, OnErr, ℕ, ◌+◌, ◌<◌, List, [], ◌∷◌, length, drop, refl, sym, ap, ◌∙◌, subst, Option, Some, None, Result, Ok, Err, drop-cons, add-one, ℤ}
+use Rattle.iso_conduct.specs.Courses.{GivesRow, IsAssigned, IsSoundAt, asks_row, change_by, is_update, change_of, columns_in, found_at, left_at, pair_of, pairs_of, part_of, staged}
 use Rattle.iso_conduct.specs.Parts.{Part}
 use Rattle.iso_conduct.specs.Parts.Part.{Asks}
 use Rattle.iso_conduct.specs.Points.{Haul, change_part, change_parts, due_by, fault_code}
@@ -29,6 +29,20 @@ module _ (s : Statement) (columns : List Column) (t : TableId) where
 pub left-row_lock : (t : TableId) (s : Statement) (columns : List Column) (look : Part) (found : List kept.Found) (i : ℕ) → i < length found
     → left_at t s columns look found (Stage.RowLock i) ≡ Asks (Row t (found_at found i).rid) X ∷ left_at t s columns look found (Stage.RowWait i)
 left-row_lock t s columns look found i lt = rw (parts-drop s columns t found i lt) refl
+
+-- so it is the lock of a row that comes first
+asks-row_lock : (c : Course) (i : ℕ) → c.stage ≡ Stage.RowLock i → IsSoundAt c.stage c → asks_row (staged c) ≡ true
+asks-row_lock c i e s = subst (λ g. asks_row (left_at c.table c.statement (columns_in c.updates) (part_of c.walk c.place) c.found g) ≡ true) (sym e)
+    (ap asks_row (left-row_lock c.table c.statement (columns_in c.updates) (part_of c.walk c.place) c.found i (subst (λ g. IsSoundAt g c) e s).0))
+
+pub err-asks : (c : Course) (i : ℕ) → c.stage ≡ Stage.RowLock i → IsSoundAt c.stage c → is_update c.statement ≡ true
+    → (is_update c.statement && asks_row (staged c)) ≡ true
+err-asks c i e s u = rw (u) (asks-row_lock c i e s)
+
+-- what holds, holds where there is an error
+pub on-err : {A E P : Type 0} (r : Result A E) → P → OnErr r P
+on-err (Ok a) p = tt
+on-err (Err e) p = p
 
 -- the change of a row that is worked out
 pub change-worked : (s : Statement) (columns : List Column) (t : TableId) (r : Rid) (row given : List Value) (fault : Option ℤ) → IsAssigned s columns row given fault

@@ -24,10 +24,11 @@ use Rattle.iso_sql.specs.declared.statement.Items2.{Items2}
 use Rattle.iso_sql.specs.declared.statement.Items2.TheVariants.{Columns}
 use Rattle.iso_sql.specs.declared.statement.Statement.{Statement}
 use Rattle.iso_sql.specs.declared.statement.Statement.TheVariants as st
-use Rattle.iso_types.specs.Head.{all_fit}
+use Rattle.iso_types.specs.Head.{all_fit, row_fits}
 use Rattle.iso_types.specs.declared.head.Column.{Column}
+use Rattle.iso_types.specs.declared.head.Head.{Head}
 use Rattle.iso_types.specs.declared.head.TableDef.{TableDef}
-use Rattle.iso_types.specs.declared.value.Name.TheVariants.{Table}
+use Rattle.iso_types.specs.declared.value.Name.TheVariants.{Row, Table}
 use Rattle.iso_types.specs.declared.value.Rid.{Rid}
 use Rattle.iso_types.specs.declared.value.TableId.{TableId}
 use Rattle.iso_types.specs.declared.value.Value.{Value}
@@ -237,10 +238,21 @@ reads_within (st.Update t sets cond level) columns row = is_within (length row) 
 reads_within (st.Delete t cond level) columns row = is_within (length row) cond
 reads_within s columns row = true
 
--- in an index scan the key's column is in the row
+-- in an index scan the key's column is in a row of this width
+abbrev pub keyed_within : ℕ → List Part → Bool
+keyed_within width (EntryLook k key r ∷ ps) = nat_lt k.column width
+keyed_within width ps = true
+
+-- it is in the row
 abbrev pub key_within : List Part → List Value → Bool
-key_within (EntryLook k key r ∷ ps) row = nat_lt k.column (length row)
-key_within ps row = true
+key_within ps row = keyed_within (length row) ps
+
+-- the row is one of the statement's table
+abbrev pub fits_table : Head → Statement → List Value → Bool
+fits_table head (st.Select t items cond level) row = row_fits head t row
+fits_table head (st.Update t sets cond level) row = row_fits head t row
+fits_table head (st.Delete t cond level) row = row_fits head t row
+fits_table head s row = true
 
 -- how many rows the scan kept
 abbrev pub haul_size : Haul → ℕ
@@ -262,11 +274,27 @@ abbrev pub MayTell : Point → Told → Type 0
 MayTell p (Told.Shown shown fresh) = (scan_slot p.left + 1 < 4294967296) × (haul_size p.kept + 1 < 4294967296) × ((row : List Value) → shown ≡ Some row → suits p row ≡ true)
 MayTell p t = Unit {0}
 
--- the answers that may take memory: a shown row, and the grant of the lock on an UPDATE's row
+-- the lock of a row is due
+abbrev pub asks_row : List Part → Bool
+asks_row (Asks (Row t r) mode ∷ ps) = true
+asks_row _ = false
+
+-- the change of a row is due, or its fault
+abbrev pub is_row_change : List Part → Bool
+is_row_change (Part.RowUpdate t r row ∷ ps) = true
+is_row_change (Refuses code ∷ ps) = true
+is_row_change _ = false
+
+-- a wait before it
+abbrev pub awaits_change : List Part → Bool
+awaits_change (Claims ∷ ps) = is_row_change ps
+awaits_change _ = false
+
+-- the answers that may take memory: a shown row; and of an UPDATE the lock on a row, when it is there or its wait is over
 abbrev pub takes_memory : Point → Told → Bool
 takes_memory p (Told.Shown shown fresh) = true
-takes_memory p Told.Done = is_update p.statement
-takes_memory p Told.Granted = is_update p.statement
+takes_memory p Told.Done = is_update p.statement && asks_row p.left
+takes_memory p Told.Granted = is_update p.statement && awaits_change p.left
 takes_memory p t = false
 
 -- a kept row fits the table that an UPDATE changes

@@ -1,4 +1,4 @@
-ghost use Rattle.std.specs.Prelude.{◌≡◌, ◌<◌, ◌^◌, ◌++◌, ◌∷◌, [], drop, ◌≢◌, true, false, ◌+◌, Some, length, OnOk, OnErr, IfOk, List, if◌then◌else◌, map, nat_lt};
+ghost use Rattle.std.specs.Prelude.{◌≡◌, ◌<◌, ◌^◌, ◌++◌, ◌∷◌, [], drop, ◌≢◌, ◌&&◌, true, false, ◌+◌, Some, length, OnOk, OnErr, IfOk, List, if◌then◌else◌, map, nat_lt};
 ghost use Rattle.std.specs.List.{list_all};
 ghost use Rattle.iso_types.specs.Value.{value_eq};
 ghost use Rattle.iso_predicate.specs.Truth.{is_within, value_at};
@@ -8,7 +8,7 @@ ghost use Rattle.iso_predicate.specs.Assigned.{Answers, assigned};
 ghost use Rattle.iso_conduct.specs.Answers.{answers};
 ghost use Rattle.iso_conduct.specs.Points.{due, told_point};
 ghost use Rattle.iso_conduct.specs.declared.moves.Told.{Told};
-ghost use Rattle.iso_conduct.specs.Courses.{FitsUpdate, inserts, inserted, is_write, key_within, reads_within, suits, scan_slot, with_front, haul_size, is_undo, is_back, KeptFits, MayTell, takes_memory, with_left, IsAfterLock, IsSound, IsSoundAt, after_lock, after_scan, change_of, changes, columns_in, found_at, is_row_lock, is_update, left_with, pairs_of, part_of, point_of, sets_of, staged};
+ghost use Rattle.iso_conduct.specs.Courses.{FitsUpdate, asks_row, is_row_change, inserts, inserted, is_write, key_within, reads_within, suits, scan_slot, with_front, haul_size, is_undo, is_back, KeptFits, MayTell, takes_memory, with_left, IsAfterLock, IsSound, IsSoundAt, after_lock, after_scan, change_of, changes, columns_in, found_at, is_row_lock, is_update, left_with, pairs_of, part_of, point_of, sets_of, staged};
 ghost use Rattle.iso_conduct.specs.Parts.{failing_list, rolling_list};
 ghost use Rattle.iso_conduct.specs.Parts.Part.{Answer, Claims};
 ghost use Rattle.iso_conduct.specs.Points.{change_parts};
@@ -432,7 +432,7 @@ impl Course {
         requires front { self.old.front ≡ Front.Claims }
         ensures point { OnOk result (point_of self.new ≡ with_left (point_of self.old) (point.behind (point_of self.old).left)) }
         ensures sound { IsSound self.new }
-        ensures err { OnErr result (is_update self.old.statement ≡ true) }
+        ensures err { OnErr result ((is_update self.old.statement && is_row_change (staged self.old)) ≡ true) }
     {
         match self.stage {
             Stage::RowWait(at) => self.work_out(alloc, at)?,
@@ -448,7 +448,7 @@ impl Course {
         requires stage { self.old.stage ≢ Stage.Scan }
         ensures point { OnOk result (point_of self.new ≡ with_left (point_of self.old) (point.behind (point_of self.old).left)) }
         ensures sound { IsSound self.new }
-        ensures err { OnErr result (is_update self.old.statement ≡ true) }
+        ensures err { OnErr result ((is_update self.old.statement && asks_row (staged self.old)) ≡ true) }
     {
         match self.stage {
             Stage::RowLock(at) => self.work_out(alloc, at)?,
@@ -800,6 +800,7 @@ impl Course {
     fn take_kept(&mut self, alloc: Global) -> Rows
         requires { IsSound self.old }
         ensures rows { result ≡ point.haul_rows (point_of self.old).kept }
+        ensures none { point.haul_rows (point_of self.new).kept ≡ [] }
         ensures rest { point_of self.new ≡ record (point_of self.old) { kept = (point_of self.new).kept } }
         ensures sound { IsSound self.new }
     {
@@ -820,6 +821,7 @@ impl Course {
     pub fn take_rows(&mut self, alloc: Global) -> Rows
         requires { IsSound self.old }
         ensures rows { result ≡ point.rows_due (point_of self.old) }
+        ensures none { point.rows_due (point_of self.new) ≡ [] }
         ensures rest { point_of self.new ≡ record (point_of self.old) { kept = (point_of self.new).kept } }
         ensures sound { IsSound self.new }
     {

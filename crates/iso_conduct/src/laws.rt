@@ -1,19 +1,31 @@
-ghost use Rattle.std.specs.Prelude.{◌≡◌, ◌++◌, false, List, [], ◌∷◌, Option};
+ghost use Rattle.std.specs.List.{list_any};
+ghost use Rattle.std.specs.Prelude.{◌≡◌, ◌≤◌, ◌++◌, true, false, length, List, [], ◌∷◌, Option};
 ghost use Rattle.iso_conduct.specs.Conduct.{MayIn, is_by, point_after, stops_for_memory};
 ghost use Rattle.iso_conduct.specs.Legal.{AreGuarded, IsFinished, IsLegal};
-ghost use Rattle.iso_conduct.specs.Pacing.{lines_left};
-ghost use Rattle.iso_conduct.specs.Points.{Point};
+ghost use Rattle.iso_conduct.specs.Pacing.{Paced, lines_left};
+ghost use Rattle.iso_conduct.specs.Points.{Point, updated_columns};
+ghost use Rattle.iso_conduct.specs.Schedule.{actors, can_act};
+ghost use Rattle.iso_conduct.specs.Parts.{Part};
 ghost use Rattle.iso_conduct.specs.Whole.{IsWhole};
+ghost use Rattle.iso_conduct.specs.Courses.{fits_table, key_within, keyed_within, reads_within};
 ghost use Rattle.iso_history.specs.After.{world};
+ghost use Rattle.iso_history.specs.Legal.{Ground};
 ghost use Rattle.iso_history.specs.Makers.{by_dispatcher};
 ghost use Rattle.iso_history.specs.Phases.{phase};
+ghost use Rattle.iso_history.specs.Stops.{history_limit};
 ghost use Rattle.iso_history.specs.World.{World};
 ghost use Rattle.iso_history.specs.declared.entry.Act.{Act};
 ghost use Rattle.iso_history.specs.declared.entry.Entry.{Entry};
+ghost use Rattle.iso_script.specs.Sound.{IsSound};
 ghost use Rattle.iso_script.specs.declared.script.Line.{Line};
 ghost use Rattle.iso_script.specs.declared.script.Script.{Script};
+ghost use Rattle.iso_sql.specs.Sound.{columns_of, is_sound_statement};
+ghost use Rattle.iso_sql.specs.declared.statement.Statement.{Statement};
+ghost use Rattle.iso_types.specs.Head.{row_fits};
 ghost use Rattle.iso_types.specs.declared.head.Head.{Head};
 ghost use Rattle.iso_types.specs.declared.value.Conn.{Conn};
+ghost use Rattle.iso_types.specs.declared.value.TableId.{TableId};
+ghost use Rattle.iso_types.specs.declared.value.Value.{Value};
 
 /// At each point of a connection at most one entry is its next own one, a stop for want of memory aside: conduct leaves no
 /// choice.
@@ -47,4 +59,22 @@ pub fn finished_is_whole()
 /// other connection until the unit ends.
 pub fn legal_histories_are_guarded()
     ensures { (script : Script) (es : List Entry) → IsLegal script es → AreGuarded script es }
+{}
+
+/// No history comes to a stand before its end: where it has no Finish, the dispatcher has an entry to make, or some connection's
+/// agent is able. And none goes on for ever: it has at most 2,000,000 entries.
+pub fn some_actor_is_able()
+    ensures able { (script : Script) (es : List Entry) → IsSound script → Ground script.head es → Paced script.head script.lines es
+        → (world script.head es).pace.finished ≡ false
+        → list_any (can_act script.head (world script.head es) (lines_left script.lines es)) (actors script.head) ≡ true }
+    ensures bounded { (script : Script) (es : List Entry) → IsSound script → Ground script.head es → length es ≤ history_limit }
+{}
+
+/// A row that fits its table has all the columns that a sound statement on it reads, and the column of an index whose column
+/// the table has. So a task may be told each row that a look of it shows.
+pub fn shown_rows_suit()
+    ensures reads { (head : Head) (s : Statement) (row : List Value) → is_sound_statement head s ≡ true → fits_table head s row ≡ true
+        → reads_within s (updated_columns head s) row ≡ true }
+    ensures key { (head : Head) (t : TableId) (row : List Value) (ps : List Part) → row_fits head t row ≡ true
+        → keyed_within (length (columns_of head t)) ps ≡ true → key_within ps row ≡ true }
 {}

@@ -1,4 +1,4 @@
-ghost use Rattle.std.specs.Prelude.{◌≡◌, ◌≤◌, true, length, OnOk, OnErr, IfOk};
+ghost use Rattle.std.specs.Prelude.{◌≡◌, ◌≤◌, [], true, length, OnOk, OnErr, IfOk};
 ghost use Rattle.iso_conduct.specs.Answers.{answers};
 ghost use Rattle.iso_conduct.specs.Courses.{MayTell, is_write, takes_memory};
 ghost use Rattle.iso_conduct.specs.Points.{due, row_due, rows_due, start_point, told_point};
@@ -72,7 +72,7 @@ impl Task {
         requires may { MayTell self.old outcome }
         requires answers { answers (due self.old) outcome ≡ true }
         ensures ok { OnOk result (self.new ≡ told_point self.old outcome) }
-        // memory is taken for a row that is kept, and for the one that an UPDATE makes
+        // memory is taken for a row that is kept, and for the one that an UPDATE makes once it has the row's lock
         ensures err { OnErr result (takes_memory self.old outcome ≡ true) }
     {
         self.course.told(alloc, outcome)?;
@@ -82,6 +82,7 @@ impl Task {
     /// The rows of the reply, of which the task keeps none. It takes no memory.
     pub fn take_rows(&mut self, alloc: Global) -> Rows
         ensures rows { result ≡ rows_due self.old }
+        ensures none { rows_due self.new ≡ [] }
         ensures rest { self.new ≡ record self.old { kept = self.new.kept } }
     {
         self.course.take_rows(alloc)

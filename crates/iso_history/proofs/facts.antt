@@ -17,3 +17,6 @@ pub mod Waiters
 pub mod Due
 pub mod Lasting
 pub mod Excludes
+pub mod OfHead
+pub mod Keeping
+pub mod Uncovered

@@ -2,3 +2,5 @@ pub mod Writers
 pub mod Sound
 pub mod Journal
 pub mod Guarded
+pub mod Looking
+pub mod Locks

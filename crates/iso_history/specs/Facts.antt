@@ -171,14 +171,14 @@ WritesAwaited holds waits = (c : Conn) (x : Wait) → wait_of waits c ≡ Some x
 abbrev pub is_whole : Mode → Bool
 is_whole m = covers m S && (not (at_least m Ix) || covers m X)
 
--- where a Collapse is due, the table is held whole
+-- where a Collapse is due, the table is held in its mode, and so whole
 unfoldable pub DuesHeld : World → Type 0
-DuesHeld w = (c : Conn) (t : TableId) (m : Mode) → w.due c ≡ Some (t, m) → option_map_or is_whole (held w.holds c (Table t)) false ≡ true
+DuesHeld w = (c : Conn) (t : TableId) (m : Mode) → w.due c ≡ Some (t, m) → (held w.holds c (Table t) ≡ Some m) × (is_whole m ≡ true)
 
--- an escalation that is awaited is of the table, and makes it held whole
+-- an escalation that is awaited is of the table, the target of its wait is its mode, in which the table will be held, and which is whole
 unfoldable pub DuesAwaited : World → Type 0
 DuesAwaited w = (c : Conn) (t : TableId) (m : Mode) (x : Wait) → w.last c ≡ Awaits t m → wait_of w.waits c ≡ Some x
-    → (x.name ≡ Table t) × (is_whole (target w.holds c (Table t) x.target) ≡ true)
+    → (x.name ≡ Table t) × (x.target ≡ m) × (target w.holds c (Table t) m ≡ m) × (is_whole m ≡ true)
 
 -- the facts of locks together: they need no others
 pub record LocksSound (head : Head) (w : World) : Type 0 where

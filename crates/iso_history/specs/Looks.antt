@@ -1,6 +1,6 @@
 -- Looks.
 use Rattle.std.specs.Option.{option_map, option_map_or}
-use Rattle.std.specs.Prelude.{Bool, true, not, ◌&&◌, ◌||◌, List, if◌then◌else◌, nat_lt, Some, None, Option}
+use Rattle.std.specs.Prelude.{Bool, true, not, ◌&&◌, ◌||◌, List, if◌then◌else◌, is_some, nat_lt, Some, None, Option}
 use Rattle.iso_history.specs.Holds.{placed_by_want}
 use Rattle.iso_history.specs.Records.{is_in_window}
 use Rattle.iso_history.specs.Requests.{Outcome, asking, is_had, may_ask, request}
@@ -40,6 +40,10 @@ want_asks head w c t r Dirty = None
 want_asks head w c t r Current = if is_current head w c t r then None else Some Ns
 want_asks head w c t r Want.Settled = if is_settled head w c t r then None else Some Ns
 want_asks head w c t r want = option_map (λ m. m.0) (placed_by_want want)
+
+-- the want locks the row that it shows: Steady, Repeat, Alter and AlterKept
+abbrev pub locks_row : Want → Bool
+locks_row want = is_some (placed_by_want want)
 
 -- the mode that a look asks, or none
 abbrev pub look_asks : Head → World → Conn → TableId → Rid → Want → Option Mode

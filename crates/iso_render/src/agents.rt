@@ -116,10 +116,10 @@ pub fn put_agent(
                 &Name::Row(*table, *rid),
             )
         }
-        Act::Next {
-            got: Stand::Queued(name),
-            ..
-        } => { put_wait(alloc, out, head, line, conn, Mode::S, name) }
+        Act::Next { got, .. } => match got.get() {
+            Stand::Queued(name) => put_wait(alloc, out, head, line, conn, Mode::S, name),
+            _ => Ok(()),
+        },
         Act::Collapse { table, mode } => {
             put_front(alloc, out, head, line, conn)?;
             put(out, b"ESCALATES ")?;

@@ -8,6 +8,7 @@ use iso_types::{
     Config, Conn, ConnDef, Head, IndexDef, IndexId, Isolation, Items, Name, Range, Rid, Row,
     TableDef, TableId, Text, Value,
 };
+use sqlite_items::Boxed;
 use std::test::Fail;
 
 const A: Conn = Conn(0);
@@ -202,6 +203,22 @@ fn replies(rt: HostRuntime) -> Result<(), Fail> {
     Ok(())
 }
 
+// A step of an index scan that waits for the end of the index.
+fn end_wait(rt: &impl AllocGlobal) -> Result<Act, Fail> {
+    let alloc = rt.alloc();
+    let all = Range {
+        low: None,
+        high: None,
+    };
+    Ok(Act::Next {
+        index: I,
+        range: Boxed::new(alloc, all)?,
+        after: Boxed::new(alloc, None)?,
+        guarded: true,
+        got: Boxed::new(alloc, Stand::Queued(Name::End(I)))?,
+    })
+}
+
 #[test]
 fn waits_and_stops(rt: HostRuntime) -> Result<(), Fail> {
     let row = Act::Look {
@@ -211,16 +228,7 @@ fn waits_and_stops(rt: HostRuntime) -> Result<(), Fail> {
         got: Got::Queued(Mode::Ns),
     };
     assert!(rt; prints(&rt, 6, row, b"6 A WAITS NS ROW T 4\n")?);
-    let end = Act::Next {
-        index: I,
-        range: Range {
-            low: None,
-            high: None,
-        },
-        after: None,
-        guarded: true,
-        got: Stand::Queued(Name::End(I)),
-    };
+    let end = end_wait(&rt)?;
     assert!(rt; prints(&rt, 6, end, b"6 A WAITS S END I\n")?);
     let table = lock(Name::Table(T), Mode::Ix, Got::Queued(Mode::Six));
     assert!(rt; prints(&rt, 5, table, b"5 A WAITS SIX TABLE T\n")?);

@@ -2,7 +2,12 @@
 #![tactic(auto)]
 
 mod pin;
+mod parts;
+mod segment;
 mod store;
 
 pub use pin::Pin;
 pub use store::Store;
+
+#[cfg(test)]
+mod tests;

@@ -1,9 +1,8 @@
 -- What the lock list says of the world.
-use Rattle.std.proofs.Common.{◌≡◌, ◌≤◌, ◌+◌, ℕ, Bool, true, false, not, ◌||◌, List, length, refl, ap, ◌∙◌, arith}
-use Rattle.std.specs.Option.{option_map, option_map_or}
-use Rattle.std.specs.Prelude.{count_by, if◌then◌else◌, nat_lt, None}
+use Rattle.std.proofs.Common.{◌≡◌, ◌≤◌, ◌+◌, ℕ, Bool, true, false, ◌||◌, length, refl, ap, ◌∙◌}
+use Rattle.std.specs.Prelude.{count_by, if◌then◌else◌, nat_lt}
 use Rattle.iso_history.specs.Facts.{AreAlone, AreSingle, LockFacts, OfHead}
-use Rattle.iso_history.specs.Requests.{asking, is_limited}
+use Rattle.iso_history.specs.Requests.{is_limited}
 use Rattle.iso_history.specs.World.{World}
 use Rattle.iso_locklist.specs.Holding.{AreOfHead, WaitsOnce, room_in_lists}
 use Rattle.iso_locklist.specs.Lists.{IsHeadsIn, IsSingleIn}
@@ -12,18 +11,12 @@ use Rattle.iso_locklist.specs.declared.room.Room.{Room}
 use Rattle.iso_locklist.specs.declared.room.Room.TheVariants.{AtCapacity, AtShare, Free}
 use Rattle.iso_locklist.proofs.Alike.{none_found}
 use Rattle.iso_locklist.proofs.AlikeWaits.{own}
-use Rattle.iso_modes.specs.Modes.{mode_eq}
-use Rattle.iso_modes.specs.declared.Mode.{Mode}
-use Rattle.iso_modes.specs.declared.Term.TheVariants.{Brief}
 use Rattle.iso_queue.specs.Limits as limits
-use Rattle.iso_queue.specs.Locks.{Hold, held, is_hold_of, target}
-use Rattle.iso_queue.specs.Queues.{is_waiting, wait_of, would_wait}
+use Rattle.iso_queue.specs.Locks.{is_hold_of}
 use Rattle.iso_types.specs.Head.{lock_share, lock_slots}
-use Rattle.iso_types.specs.Ids.{conn_eq}
 use Rattle.iso_types.specs.declared.head.Head.{Head}
 use Rattle.iso_types.specs.declared.value.Conn.{Conn}
 use Rattle.iso_types.specs.declared.value.Name.{Name}
-use Rattle.iso_locklist.specs.Holding.{LocksAre}
 use Rattle.iso_state.specs.Stands.{IsLimitedBy}
 
 -- a connection holds a name once at most

@@ -1,6 +1,6 @@
 -- The lock list after a request, and after the holds are settled.
 use Rattle.std.proofs.Common.{◌≡◌, ◌≤◌, Bool, true, false, not, ◌&&◌, ◌||◌, List, refl, ap, sym, subst, ◌∙◌}
-use Rattle.std.specs.Option.{option_map, option_map_or}
+use Rattle.std.specs.Option.{option_map_or}
 use Rattle.std.specs.Prelude.{None, Some, count_by, if◌then◌else◌, Option}
 use Rattle.iso_history.specs.Requests.{Outcome, asking, is_limited, need_of, request}
 use Rattle.iso_history.specs.Requests.Outcome.{Gives, Limit}
@@ -15,9 +15,8 @@ use Rattle.iso_modes.specs.Terms.{is_brief, is_fresh}
 use Rattle.iso_modes.specs.declared.Mode.{Mode}
 use Rattle.iso_modes.specs.declared.Term.{Term}
 use Rattle.iso_modes.specs.declared.Term.TheVariants.{Kept}
-use Rattle.iso_queue.specs.Locks.{Hold, dropped, freed, held, hold_on, is_covered, is_hold_of, placed, settled, target, without_briefs}
-use Rattle.iso_queue.specs.Queues.{Wait, is_waiting, queued, unqueued, would_wait}
-use Rattle.iso_types.specs.Ids.{conn_eq}
+use Rattle.iso_queue.specs.Locks.{Hold, held, hold_on, is_covered, is_hold_of, placed, settled, target, without_briefs}
+use Rattle.iso_queue.specs.Queues.{queued, would_wait}
 use Rattle.iso_types.specs.declared.head.Head.{Head}
 use Rattle.iso_types.specs.declared.value.Conn.{Conn}
 use Rattle.iso_types.specs.declared.value.Name.{Name}

@@ -26,11 +26,11 @@ abbrev pub has_lock : Head → List Hold → Conn → TableId → Rid → Mode �
 has_lock head holds c t r m = is_covered head holds c (Row t r) m || holds_at_least holds c (Row t r) m
 
 -- the mode that passes a test
-passing : (f : Mode → Bool) (x : Option Mode) → option_map_or f x false ≡ true → (a : Mode) × (x ≡ Some a) × (f a ≡ true)
+pub passing : (f : Mode → Bool) (x : Option Mode) → option_map_or f x false ≡ true → (a : Mode) × (x ≡ Some a) × (f a ≡ true)
 passing f None e = cc
 passing f (Some a) e = (a, refl, e)
 
-apart-not : (b : Bool) → not b ≡ true → b ≡ true → ⊥
+pub apart-not : (b : Bool) → not b ≡ true → b ≡ true → ⊥
 apart-not true e h = cc
 apart-not false e h = cc
 

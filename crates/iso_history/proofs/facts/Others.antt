@@ -66,12 +66,12 @@ module _ (c d : Conn) (n : Name) (away : conn_eq c d ≡ false) where
       ∙ others-hand head (hand_of head w c a) (settled c (spared a (w.last c)) w.holds) ∙ others-settled (spared a (w.last c)) w.holds
 
 -- what joins or quits is the connection's own wait
-abbrev IsOwn : Conn → Joining → Type 0
+abbrev pub IsOwn : Conn → Joining → Type 0
 IsOwn c Passes = Unit {0}
 IsOwn c (Joins x) = x.conn ≡ c
 IsOwn c (Quits d) = d ≡ c
 
-own-joining : (w : World) (c : Conn) (a : Act) → IsOwn c (joining_of_agent w c a)
+pub own-joining : (w : World) (c : Conn) (a : Act) → IsOwn c (joining_of_agent w c a)
 own-joining w c (Lock n m t why (Got.Queued q)) = refl
 own-joining w c (Lock n m t why Got.Granted) = tt
 own-joining w c (Lock n m t why Got.TimedOut) = tt

@@ -5,7 +5,7 @@ use Rattle.std.specs.Option.{option_map_or}
 use Rattle.std.proofs.lemmas.Bool.{and_parts, lt-ltb}
 use Rattle.iso_history.proofs.locks.Fits.{held-from, queued_by}
 use Rattle.iso_history.proofs.locks.Finds.{find-here, find-past}
-use Rattle.iso_history.proofs.locks.Modes.{enough-joined, suits-target}
+use Rattle.iso_history.proofs.locks.Modes.{covers-bare, enough-joined, row-suits, suits-target}
 use Rattle.iso_history.proofs.locks.Stands.{asked-back, asked-suits, escalation-suits, is_stand}
 use Rattle.iso_history.proofs.locks.Tests.{or-first_false, or-other, or-second}
 use Rattle.iso_history.specs.Entries.{found, stand_of, is_in_range}
@@ -15,7 +15,7 @@ use Rattle.iso_history.specs.Legal.{By, ByAgent, LockStands, Runs}
 use Rattle.iso_history.specs.Looks.{look, look_asks, may_look}
 use Rattle.iso_history.specs.Nexts.{may_next, next, stand_after}
 use Rattle.iso_history.specs.Phases.{phase, phase_of, victim}
-use Rattle.iso_history.specs.Requests.{Outcome, asking, escalation, is_backed, is_had, is_limited, is_there, may_ask, need_of, request, table_mode}
+use Rattle.iso_history.specs.Requests.{Outcome, asking, escalation, is_backed, is_had, is_limited, is_row_mode, is_there, may_ask, need_of, request, table_mode}
 use Rattle.iso_history.specs.Requests.Outcome.{Gives, Limit}
 use Rattle.iso_history.specs.Waits.{Joining, joining_of, joining_of_agent, joining_of_dispatcher, wait_term}
 use Rattle.iso_history.specs.Waits.Joining.{Joins, Passes, Quits}
@@ -30,14 +30,14 @@ use Rattle.iso_history.specs.declared.entry.Who.{Who}
 use Rattle.iso_history.specs.declared.entry.Who.TheVariants.{Agent, Dispatcher}
 use Rattle.iso_history.specs.declared.entry.Why.{Why}
 use Rattle.iso_history.specs.declared.entry.Why.TheVariants.{Asked, Blocked, Escalation}
-use Rattle.iso_modes.specs.Modes.{escalated, joined}
+use Rattle.iso_modes.specs.Modes.{covers, escalated, joined}
 use Rattle.iso_modes.specs.Terms.{is_kept}
 use Rattle.iso_modes.specs.declared.Mode.{Mode}
 use Rattle.iso_modes.specs.declared.Mode.TheVariants.{S, X}
 use Rattle.iso_modes.specs.declared.Term.{Term}
 use Rattle.iso_modes.specs.declared.Term.TheVariants.{Kept}
 use Rattle.iso_queue.specs.Limits.{prey}
-use Rattle.iso_queue.specs.Locks.{held, hold_on, holds_at_least, is_covered, target}
+use Rattle.iso_queue.specs.Locks.{held, hold_on, holds_at_least, is_covered, is_covered_on, target}
 use Rattle.iso_queue.specs.Queues.{Wait, wait_of, would_wait}
 use Rattle.iso_types.specs.Head.{is_index, is_table, table_of, tables}
 use Rattle.iso_types.specs.declared.desk.Phase.TheVariants.{Running}
@@ -58,6 +58,7 @@ pub record WaitFits (head : Head) (w : World) (x : Wait) : Type 0 where
   pub backed : (t : TableId) → table_of head x.name ≡ Some t → holds_at_least w.holds x.conn (Table t) (table_mode x.target) ≡ true
   pub kept : (t : TableId) → x.name ≡ Table t → is_kept x.term ≡ true
   pub suits : suits_held x.name x.target ≡ true
+  pub bare : is_covered head w.holds x.conn x.name x.target ≡ false
 
 -- a wait that joins fits
 abbrev pub JoinStands : Head → World → Joining → Type 0
@@ -136,6 +137,21 @@ module _ (head : Head) (w : World) (c : Conn) (s : LocksSound head w) where
   unfolding ModesSuit
   held-suits n a h = let g = held-from (hold_on w.holds c n) a h in rw g.2 at (s.suits c n g.0 g.1)
 
+  -- what the table's lock does not cover, it does not cover joined with what is held
+  target-bare : (n : Name) (m : Mode) → suits_held n m ≡ true → is_covered head w.holds c n m ≡ false → is_covered head w.holds c n (target w.holds c n m) ≡ false
+  target-bare n m suits none = go (table_of head n) refl none
+    where
+      join : (t a : Option Mode) → is_row_mode m ≡ true → option_map_or (λ h. covers h m) t false ≡ false
+          → option_map_or (λ h. covers h (option_map_or (λ z. joined z m) a m)) t false ≡ false
+      join None a r e = refl
+      join (Some t) None r e = e
+      join (Some t) (Some a) r e = covers-bare t a m r e
+
+      go : (o : Option TableId) → table_of head n ≡ o → option_map_or (is_covered_on w.holds c m) o false ≡ false
+          → option_map_or (is_covered_on w.holds c (target w.holds c n m)) o false ≡ false
+      go None k e = refl
+      go (Some t) k e = join (held w.holds c (Table t)) (held w.holds c n) (row-suits head n t m k suits) e
+
   -- a request that is queued
   queued-fits : (n : Name) (m q : Mode) (t : Term) → wait_of w.waits c ≡ None → is_there head w n ≡ true
       → (is_covered head w.holds c n m || is_backed head w c n m) ≡ true → ((u : TableId) → n ≡ Table u → is_kept t ≡ true)
@@ -147,6 +163,7 @@ module _ (head : Head) (w : World) (c : Conn) (s : LocksSound head w) where
     backed = λ u k. ap (λ (z : Mode). holds_at_least w.holds c (Table u) (table_mode z)) (sym had.1) ∙ target-backed n m u k (backed-at u k);
     kept = kept;
     suits = ap (suits_held n) (sym had.1) ∙ suits-target n (held w.holds c n) m (held-suits n) suits;
+    bare = ap (is_covered head w.holds c n) (sym had.1) ∙ target-bare n m suits (or-first_false _ _ had.0);
   }
     where
       had : (is_had head w c n m ≡ false) × (target w.holds c n m ≡ q)

@@ -102,6 +102,19 @@ unfolding mode_number mode_eq joined is_row_mode is_table_mode covers
 covers-joined t a b m h g r e =
     implied _ _ (implied _ _ (implied _ _ (implied _ _ (each (raised_covers a b) (each-pair (λ x y. list_all (raised_covers x y) modes) refl a b) m) h) g) r) e
 
+-- what a table lock does not cover, it does not cover joined with more
+abbrev bare_joins : Mode → Mode → Mode → Bool
+bare_joins t a m = not (is_row_mode m) || (not (not (covers t m)) || not (covers t (joined a m)))
+
+pub covers-bare : (t a m : Mode) → is_row_mode m ≡ true → covers t m ≡ false → covers t (joined a m) ≡ false
+unfolding mode_number mode_eq joined is_row_mode covers
+covers-bare t a m r e =
+    not-is _ (implied _ _ (implied _ _ (each (bare_joins t a) (each-pair (λ x y. list_all (bare_joins x y) modes) refl t a) m) r) (ap not e))
+  where
+    not-is : (b : Bool) → not b ≡ true → b ≡ false
+    not-is true k = cc
+    not-is false k = refl
+
 -- what covers a mode covers each row mode that it is at least
 abbrev lower_covers : Mode → Mode → Mode → Bool
 lower_covers t a m = not (covers t a) || (not (at_least a m) || (not (is_row_mode m) || covers t m))

@@ -1,10 +1,10 @@
--- Where a Collapse is due, the table is held whole.
+-- Where a Collapse is due, the table is held in its mode, and that is whole.
 use Rattle.std.proofs.Common.{List, [], ◌∷◌, ◌≡◌, ℕ, Bool, true, false, not, ◌&&◌, refl, ap, sym, ◌∙◌, Some, None, Option, option_map, subst, if◌then◌else◌}
 use Rattle.std.specs.Option.{option_map_or}
 use Rattle.iso_history.proofs.pending.Conns.{and-first, and-rest, at_conn-cases, at_conn-other, at_conn-same, conn-is, conn-same, no-both, table_name-same, and-both}
 use Rattle.iso_history.proofs.pending.Finds.{find-kept, find-mapped, find-none}
 use Rattle.iso_history.proofs.pending.Kept.{kept-not_brief, raised-of, settled-kept, settled-of}
-use Rattle.iso_history.proofs.pending.ModeTests.{whole-escalated, whole-twice, whole-x}
+use Rattle.iso_history.proofs.pending.ModeTests.{escalated-joins, whole-escalated, whole-x}
 use Rattle.iso_history.proofs.pending.Others.{others-agent}
 use Rattle.iso_history.proofs.pending.Queueing.{WaitOf, joins, others, undoes, waits-agent, waits-dispatcher, request-queued, lock-request}
 use Rattle.iso_history.proofs.pending.Waiting.{none-left}
@@ -79,7 +79,7 @@ added-new (g ∷ gs) c r same e = go (added-new gs c r same) (is_hold_of c r.nam
 
 module _ (head : Head) (w : World) (tables : TablesKept w.holds) where
   -- the connection's table lock where its entry places nothing
-  table-leaves : (c : Conn) (a : Act) (t : TableId) → hand_of head w c a ≡ Leaves
+  pub table-leaves : (c : Conn) (a : Act) (t : TableId) → hand_of head w c a ≡ Leaves
       → held (holds_by_agent head w c a) c (Table t) ≡ held w.holds c (Table t)
   unfolding TablesKept
   table-leaves c a t l = ap (λ z. held (without_briefs w.holds c (holds_by_hand head c z mid)) c (Table t)) l ∙ go (hold_on w.holds c (Table t)) refl
@@ -160,23 +160,23 @@ module _ (head : Head) (w : World) (tables : TablesKept w.holds) where
       go None q = cc
       go (Some u) q = let p = pair-is u _ q in sym p.1 ∙ ap (λ z. option_map_or escalated (held w.holds c (Table z)) X) p.0
 
-  -- what it comes to is whole
-  escalated-whole : (c : Conn) (t : TableId) (m : Mode) → escalation head w c ≡ Some (t, m)
-      → (is_whole (target w.holds c (Table t) m) ≡ true) × (is_whole (target w.holds c (Table t) (target w.holds c (Table t) m)) ≡ true)
-  escalated-whole c t m e = subst (λ (z : Mode). (is_whole (target w.holds c (Table t) z) ≡ true) ×
-      (is_whole (target w.holds c (Table t) (target w.holds c (Table t) z)) ≡ true))
+  -- the table will be held in it, and it is whole
+  escalated-whole : (c : Conn) (t : TableId) (m : Mode) → escalation head w c ≡ Some (t, m) → (target w.holds c (Table t) m ≡ m) × (is_whole m ≡ true)
+  escalated-whole c t m e = subst (λ (z : Mode). (target w.holds c (Table t) z ≡ z) × (is_whole z ≡ true))
       (sym (escalation-is c t m e)) (go (held w.holds c (Table t)))
     where
-      go : (o : Option Mode)
-          → (is_whole (option_map_or (λ h. joined h (option_map_or escalated o X)) o (option_map_or escalated o X)) ≡ true)
-          × (is_whole (option_map_or (λ h. joined h (option_map_or (λ h. joined h (option_map_or escalated o X)) o (option_map_or escalated o X))) o
-          (option_map_or (λ h. joined h (option_map_or escalated o X)) o (option_map_or escalated o X))) ≡ true)
-      go None = (whole-x, whole-x)
-      go (Some k) = (whole-escalated k, whole-twice k)
+      go : (o : Option Mode) → (option_map_or (λ h. joined h (option_map_or escalated o X)) o (option_map_or escalated o X) ≡ option_map_or escalated o X)
+          × (is_whole (option_map_or escalated o X) ≡ true)
+      go None = (refl, whole-x)
+      go (Some k) = (escalated-joins k, whole-escalated k)
+
+  -- the table is held in this mode, which is whole
+  abbrev InMode : List Hold → Conn → TableId → Mode → Type 0
+  InMode holds c t m = (held holds c (Table t) ≡ Some m) × (is_whole m ≡ true)
 
   -- a due Collapse after an own entry
   due-own : (c : Conn) (a : Act) (t : TableId) (m : Mode) → ByAgent head w c a → DuesAwaited w → due_of a (w.last c) ≡ Some (t, m)
-      → option_map_or is_whole (held (holds_by_agent head w c a) c (Table t)) false ≡ true
+      → InMode (holds_by_agent head w c a) c t m
   unfolding DuesAwaited
   due-own c (Lock n m2 k why got) t m al aw e = at_lock n m2 k why got al.1 e
     where
@@ -186,15 +186,18 @@ module _ (head : Head) (w : World) (tables : TablesKept w.holds) where
       pair-is : (u : TableId) (j : Mode) → ◌≡◌ {A = Option (TableId × Mode)} (Some (u, j)) (Some (t, m)) → (u ≡ t) × (j ≡ m)
       pair-is u j q = (ap (λ z. option_map_or (λ p. p.0) z t) q, ap (λ z. option_map_or (λ p. p.1) z m) q)
 
-      at_table : (u : TableId) (j : Mode) (k : Term) → escalation head w c ≡ Some (u, j) → (u ≡ t)
-          → option_map_or is_whole (held (holds_by_agent head w c (Lock (Table u) j k Escalation Got.Granted)) c (Table t)) false ≡ true
-      at_table u j k es p = subst (λ (z : TableId). option_map_or is_whole (held (holds_by_agent head w c (Lock (Table u) j k Escalation Got.Granted)) c
-          (Table z)) false ≡ true) p
-          (ap (λ o. option_map_or is_whole o false) (table-placed c (Lock (Table u) j k Escalation Got.Granted) u j k refl) ∙ (escalated-whole c u j es).0)
+      at_table : (u : TableId) (j : Mode) (k : Term) → escalation head w c ≡ Some (u, j)
+          → InMode (holds_by_agent head w c (Lock (Table u) j k Escalation Got.Granted)) c u j
+      at_table u j k es =
+          let f = escalated-whole c u j es in
+          (table-placed c (Lock (Table u) j k Escalation Got.Granted) u j k refl ∙ ap Some f.0, f.1)
 
       at_lock : (n : Name) (j : Mode) (k : Term) (why : Why) (got : Got) → LockStands head w c n j k why got → due_of_lock why got n j ≡ Some (t, m)
-          → option_map_or is_whole (held (holds_by_agent head w c (Lock n j k why got)) c (Table t)) false ≡ true
-      at_lock (Table u) j k Escalation Got.Granted st q = at_table u j k st.1.1 (pair-is u j q).0
+          → InMode (holds_by_agent head w c (Lock n j k why got)) c t m
+      at_lock (Table u) j k Escalation Got.Granted st q =
+          let p = pair-is u j q in
+          subst (λ (z : Mode). InMode (holds_by_agent head w c (Lock (Table u) j k Escalation Got.Granted)) c t z) p.1
+          (subst (λ (z : TableId). InMode (holds_by_agent head w c (Lock (Table u) j k Escalation Got.Granted)) c z j) p.0 (at_table u j k st.1.1))
       at_lock (Row u r) j k Escalation Got.Granted st q = absurd (none-some q)
       at_lock (Key i v) j k Escalation Got.Granted st q = absurd (none-some q)
       at_lock (End i) j k Escalation Got.Granted st q = absurd (none-some q)
@@ -211,23 +214,23 @@ module _ (head : Head) (w : World) (tables : TablesKept w.holds) where
       pair-is u j q = (ap (λ z. option_map_or (λ p. p.0) z t) q, ap (λ z. option_map_or (λ p. p.1) z m) q)
 
       at_wait : (u : TableId) (j : Mode) → w.last c ≡ Awaits u j → (o : Option Wait) → wait_of w.waits c ≡ o
-          → option_map_or (λ x. not (has_edge w.holds w.waits x)) o false ≡ true
-          → option_map_or is_whole (held (holds_by_agent head w c Claim) c (Table u)) false ≡ true
+          → option_map_or (λ x. not (has_edge w.holds w.waits x)) o false ≡ true → InMode (holds_by_agent head w c Claim) c u j
       at_wait u j l None q there = absurd (no-both refl (sym there))
       at_wait u j l (Some x) q there =
-          let f : (x.name ≡ Table u) × (is_whole (target w.holds c (Table u) x.target) ≡ true) = aw c u j x l q in
-          ap (λ o. option_map_or is_whole o false) (table-placed c Claim u x.target x.term (places x q f.0)) ∙ f.1
+          let f = aw c u j x l q in
+          (table-placed c Claim u x.target x.term (places x q f.0) ∙ ap Some (ap (target w.holds c (Table u)) f.1 ∙ f.2), f.3)
         where
           places : (x : Wait) → wait_of w.waits c ≡ Some x → x.name ≡ Table u
               → claimed w c ≡ Places (record { name = Table u; mode = x.target; term = x.term } ∷ [])
           places x q n = ap (λ o. option_map_or (λ (x : Wait). Places (record { name = x.name; mode = x.target; term = x.term } ∷ [])) o Leaves) q
               ∙ ap (λ (z : Name). Places (record { name = z; mode = x.target; term = x.term } ∷ [])) n
 
-      at_last : (l : Last) → w.last c ≡ l → due_of_claim l ≡ Some (t, m) → option_map_or is_whole (held (holds_by_agent head w c Claim) c (Table t)) false ≡
-          true
-      at_last (Awaits u j) l q = let p = pair-is u j q in
-          subst (λ (z : TableId). option_map_or is_whole (held (holds_by_agent head w c Claim) c (Table z)) false ≡ true) p.0
-          (at_wait u j l (wait_of w.waits c) refl (and-rest (is_phase (phase w c) Phase.Waiting) _ al))
+      at_last : (l : Last) → w.last c ≡ l → due_of_claim l ≡ Some (t, m) → InMode (holds_by_agent head w c Claim) c t m
+      at_last (Awaits u j) l q =
+          let p = pair-is u j q in
+          subst (λ (z : Mode). InMode (holds_by_agent head w c Claim) c t z) p.1
+          (subst (λ (z : TableId). InMode (holds_by_agent head w c Claim) c z j) p.0
+          (at_wait u j l (wait_of w.waits c) refl (and-rest (is_phase (phase w c) Phase.Waiting) _ al)))
       at_last (Looked u r) l q = absurd (none-some q)
       at_last Claimed l q = absurd (none-some q)
       at_last Other l q = absurd (none-some q)
@@ -241,13 +244,13 @@ module _ (head : Head) (w : World) (tables : TablesKept w.holds) where
   dues-after e al s aw = go e.who al.2
     where
       go : (who : Who) → By head w who e.act → (d : Conn) (t : TableId) (m : Mode) → due_by w who e.act d ≡ Some (t, m)
-          → option_map_or is_whole (held (holds_by head w who e.act) d (Table t)) false ≡ true
+          → InMode (holds_by head w who e.act) d t m
       go Dispatcher a = s
       go (Agent c) a = λ d t m. at_conn-cases w.due c (due_of e.act (w.last c)) d
-          (λ o. o ≡ Some (t, m) → option_map_or is_whole (held (holds_by_agent head w c e.act) d (Table t)) false ≡ true)
-          (λ is q. subst (λ (z : Conn). option_map_or is_whole (held (holds_by_agent head w c e.act) z (Table t)) false ≡ true) (sym (conn-is d c is))
-          (due-own c e.act t m a.1 aw q))
-          (λ ne q. ap (λ o. option_map_or is_whole (option_map (λ (h : Hold). h.mode) o) false) (others-agent head w c e.act d (Table t) ne) ∙ s d t m q)
+          (λ o. o ≡ Some (t, m) → InMode (holds_by_agent head w c e.act) d t m)
+          (λ is q. subst (λ (z : Conn). InMode (holds_by_agent head w c e.act) z t m) (sym (conn-is d c is)) (due-own c e.act t m a.1 aw q))
+          (λ ne q. let old = s d t m q in
+          (ap (option_map (λ (h : Hold). h.mode)) (others-agent head w c e.act d (Table t) ne) ∙ old.0, old.1))
 
   -- the entry after which an escalation is awaited
   awaits-act : (c : Conn) (a : Act) (t : TableId) (m : Mode) → last_of a ≡ Awaits t m
@@ -279,26 +282,29 @@ module _ (head : Head) (w : World) (tables : TablesKept w.holds) where
   awaits-act c Claim t m e = cc
   awaits-act c _ t m e = cc
 
-  -- it is of the table, and makes it held whole
+  -- it is of the table, and will leave it in its mode
+  abbrev Will : List Hold → Conn → TableId → Mode → Wait → Type 0
+  Will holds c t m x = (x.name ≡ Table t) × (x.target ≡ m) × (target holds c (Table t) m ≡ m) × (is_whole m ≡ true)
+
   awaited-own : (c : Conn) (a : Act) (t : TableId) (m q : Mode) (k : Term) (x : Wait) → a ≡ Lock (Table t) m k Escalation (Got.Queued q)
-      → ByAgent head w c a → joining_of_agent w c a ≡ Joins x
-      → (x.name ≡ Table t) × (is_whole (target (holds_by_agent head w c a) c (Table t) x.target) ≡ true)
+      → ByAgent head w c a → joining_of_agent w c a ≡ Joins x → Will (holds_by_agent head w c a) c t m x
   awaited-own c a t m q k x is = subst (λ (z : Act). ByAgent head w c z → joining_of_agent w c z ≡ Joins x
-      → (x.name ≡ Table t) × (is_whole (target (holds_by_agent head w c z) c (Table t) x.target) ≡ true)) (sym is) at_lock
+      → Will (holds_by_agent head w c z) c t m x) (sym is) at_lock
     where
       made : Wait
       made = record { name = Table t; conn = c; target = q; term = k }
 
       at_lock : ByAgent head w c (Lock (Table t) m k Escalation (Got.Queued q)) → Joins made ≡ Joins x
-          → (x.name ≡ Table t) × (is_whole (target (holds_by_agent head w c (Lock (Table t) m k Escalation (Got.Queued q))) c (Table t) x.target) ≡ true)
+          → Will (holds_by_agent head w c (Lock (Table t) m k Escalation (Got.Queued q))) c t m x
       at_lock al j =
           let same : made ≡ x = ap (λ z. elim z [ Passes ↦ made | Joins y ↦ y | Quits d ↦ made ]) j in
           let asked : q ≡ target w.holds c (Table t) m = request-queued head w c (Table t) m q
-          (lock-request head w c (Table t) m k Escalation (Got.Queued q) al.1) in (
+          (lock-request head w c (Table t) m k Escalation (Got.Queued q) al.1) in
+          let f = escalated-whole c t m al.1.1.1 in (
             ap (λ z. z.name) (sym same),
-            ap (λ o. is_whole (option_map_or (λ h. joined h x.target) o x.target)) (table-leaves c (Lock (Table t) m k Escalation (Got.Queued q)) t refl)
-                ∙ ap (λ z. is_whole (target w.holds c (Table t) z)) (ap (λ z. z.target) (sym same) ∙ asked)
-                ∙ (escalated-whole c t m al.1.1.1).1,
+            ap (λ z. z.target) (sym same) ∙ asked ∙ f.0,
+            ap (λ o. option_map_or (λ h. joined h m) o m) (table-leaves c (Lock (Table t) m k Escalation (Got.Queued q)) t refl) ∙ f.0,
+            f.1,
           )
 
   pub awaited_dues-after : (e : Entry) → Allowed head w e → DuesAwaited w → DuesAwaited (after head w e)
@@ -306,8 +312,7 @@ module _ (head : Head) (w : World) (tables : TablesKept w.holds) where
   awaited_dues-after e al s = go e.who al.2
     where
       go : (who : Who) → By head w who e.act → (d : Conn) (t : TableId) (m : Mode) (x : Wait) → last_by w.last who e.act d ≡ Awaits t m
-          → wait_of (waits_by w (joining_of w who e.act)) d ≡ Some x
-          → (x.name ≡ Table t) × (is_whole (target (holds_by head w who e.act) d (Table t) x.target) ≡ true)
+          → wait_of (waits_by w (joining_of w who e.act)) d ≡ Some x → Will (holds_by head w who e.act) d t m x
       go Dispatcher a = λ d t m x l q. s d t m x l (waits-dispatcher w e.act d x q)
       go (Agent c) a = λ d t m x l q. at_wait d t m x l (waits-agent head w c e.act d x a.1 q)
         where
@@ -318,15 +323,15 @@ module _ (head : Head) (w : World) (tables : TablesKept w.holds) where
           own d t m p l = sym (at_conn-same w.last c (last_of e.act)) ∙ subst (λ (z : Conn). last_by w.last (Agent c) e.act z ≡ Awaits t m) p l
 
           at_wait : (d : Conn) (t : TableId) (m : Mode) (x : Wait) → last_by w.last (Agent c) e.act d ≡ Awaits t m → WaitOf head w c e.act d x
-              → (x.name ≡ Table t) × (is_whole (target (holds_by_agent head w c e.act) d (Table t) x.target) ≡ true)
+              → Will (holds_by_agent head w c e.act) d t m x
           at_wait d t m x l (others ne old) =
               let r = s d t m x (sym (at_conn-other w.last c (last_of e.act) d ne) ∙ l) old in (
                 r.0,
-                ap (λ o. is_whole (option_map_or (λ h. joined h x.target) (option_map (λ (h : Hold). h.mode) o) x.target))
-                    (others-agent head w c e.act d (Table t) ne) ∙ r.1,
+                r.1,
+                ap (λ o. option_map_or (λ h. joined h m) (option_map (λ (h : Hold). h.mode) o) m) (others-agent head w c e.act d (Table t) ne) ∙ r.2,
+                r.3,
               )
           at_wait d t m x l (undoes p n u old) = let f = awaits-act c e.act t m (own d t m p l) in absurd (never n t m f.0 f.1 (sym u ∙ f.2))
           at_wait d t m x l (joins p j q) =
               let f = awaits-act c e.act t m (own d t m p l) in
-              subst (λ (z : Conn). (x.name ≡ Table t) × (is_whole (target (holds_by_agent head w c e.act) z (Table t) x.target) ≡ true)) (sym p)
-              (awaited-own c e.act t m f.1 f.0 x f.2 a.1 j)
+              subst (λ (z : Conn). Will (holds_by_agent head w c e.act) z t m x) (sym p) (awaited-own c e.act t m f.1 f.0 x f.2 a.1 j)

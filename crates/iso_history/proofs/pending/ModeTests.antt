@@ -3,7 +3,7 @@ use Rattle.std.proofs.Common.{◌≡◌, Bool, true, false, not, ◌||◌, refl}
 use Rattle.std.specs.List.{list_all}
 use Rattle.iso_history.specs.Facts.{is_whole}
 use Rattle.iso_history.specs.Requests.{table_mode}
-use Rattle.iso_modes.proofs.Modes.{each, each-pair, modes}
+use Rattle.iso_modes.proofs.Modes.{each, each-pair, mode_eq-is, modes}
 use Rattle.iso_modes.specs.Modes.{at_least, compatible, covers, escalated, goes_with, joined, mode_eq, mode_number}
 use Rattle.iso_modes.specs.declared.Mode.{Mode}
 use Rattle.iso_modes.specs.declared.Mode.TheVariants.{Ix, Ns, S, U, X}
@@ -50,14 +50,14 @@ weak-alone m w e = false-true (then-is (at_least m X) false (then-is (is_weak m)
     false-true : false ≡ true → ⊥
     false-true z = cc
 
--- an escalation makes a table lock whole, also where it is joined once more
-pub whole-escalated : (k : Mode) → is_whole (joined k (escalated k)) ≡ true
+-- an escalation's mode is whole, and the table's mode joined with it is that mode
+pub whole-escalated : (k : Mode) → is_whole (escalated k) ≡ true
 unfolding mode_number mode_eq joined at_least covers escalated
-whole-escalated k = each (λ x. is_whole (joined x (escalated x))) refl k
+whole-escalated k = each (λ x. is_whole (escalated x)) refl k
 
-pub whole-twice : (k : Mode) → is_whole (joined k (joined k (escalated k))) ≡ true
-unfolding mode_number mode_eq joined at_least covers escalated
-whole-twice k = each (λ x. is_whole (joined x (joined x (escalated x)))) refl k
+pub escalated-joins : (k : Mode) → joined k (escalated k) ≡ escalated k
+unfolding mode_number mode_eq joined escalated
+escalated-joins k = mode_eq-is _ _ (each (λ x. mode_eq (joined x (escalated x)) (escalated x)) refl k)
 
 pub whole-x : is_whole X ≡ true
 unfolding mode_number mode_eq joined at_least covers

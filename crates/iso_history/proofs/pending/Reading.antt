@@ -97,7 +97,8 @@ module _ (head : Head) (w : World) (s : IsSound head w) where
       whole : (m : Mode) → a ≡ Collapse t m → Reading w2 c t r es
       whole m p = tabled (subst (λ (z : List Hold). holds_at_least z c (Table t) S ≡ true) (sym is)
           (table-stays head w (λ k. at_least k S) (λ x y. at_least-joined S x y) c a c t s.tables (rw nil refl)
-          (whole-read (held w.holds c (Table t)) (s.whole_dues c t m (subst (ByAgent head w c) p al).1))))
+          (let due = s.whole_dues c t m (subst (ByAgent head w c) p al).1 in
+          whole-read (held w.holds c (Table t)) (ap (λ o. option_map_or is_whole o false) due.0 ∙ due.1))))
 
       goes : RowGoes a c c t r → Reading w2 c t r es
       goes (ends e) = absurd (no-both (and-first _ _ e) nil)

@@ -116,7 +116,11 @@ module _ (head : Head) (w : World) where
       goes (frees p q) k = absurd (free-fresh (λ m. at_least m X) c t r (subst (ByAgent head w c) p al)
           (subst (λ (z : Conn). keeps_mode w.holds z (Row t r) X ≡ true) q k))
       goes (collapses m p q) k = covered (whole (held w.holds d (Table t))
-          (subst (λ (z : Conn). option_map_or is_whole (held w.holds z (Table t)) false ≡ true) (sym q) (due c t m (subst (ByAgent head w c) p al).1)) writes)
+          (subst (λ (z : Conn). option_map_or is_whole (held w.holds z (Table t)) false ≡ true) (sym q) (is_held m (due c t m (subst (ByAgent head w c) p al).1)))
+          writes)
+        where
+          is_held : (m : Mode) → (held w.holds c (Table t) ≡ Some m) × (is_whole m ≡ true) → option_map_or is_whole (held w.holds c (Table t)) false ≡ true
+          is_held m f = ap (λ o. option_map_or is_whole o false) f.0 ∙ f.1
 
       at_row : keeps_mode w.holds d (Row t r) X ≡ true → (b : Bool) → takes_away head c (hand_of head w c a) d (Row t r) ≡ b
           → has_write_lock head (holds_by_agent head w c a) d t r ≡ true

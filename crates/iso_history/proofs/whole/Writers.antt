@@ -16,6 +16,7 @@ use Rattle.iso_history.specs.Records.{last_left, note_of}
 use Rattle.iso_history.specs.Units.{unit_of}
 use Rattle.iso_history.specs.Versions.{head_record, is_changed_beside, is_pending_beside, versions}
 use Rattle.iso_history.specs.World.{Version, World}
+use Rattle.iso_types.specs.Ids.{conn_eq}
 use Rattle.iso_types.specs.declared.head.Head.{Head}
 use Rattle.iso_types.specs.declared.value.Conn.{Conn}
 use Rattle.iso_types.specs.declared.value.Rid.{Rid}
@@ -49,22 +50,28 @@ module _ (head : Head) (w : World) (s : IsSound head w) (t : TableId) (r : Rid) 
   pub one-unit : OneUnit (versions w t r)
   one-unit = one-of (versions w t r) (makers-each head w s.makers t r)
 
-  -- who may write a row sees no other unit's pending version
-  alone-in : (c : Conn) → has_write_lock head w.holds c t r ≡ true → (vs : List Version) → Each (IfPending (MakerOf head w.unit w.holds t r)) vs
-      → is_pending_beside (unit_of w c) vs ≡ false
-  alone-in c lock [] h = refl
-  alone-in c lock (v ∷ vs) h = off v.pending (v.unit == unit_of w c) (is_pending_beside (unit_of w c) vs) (λ p. own (h.0 p)) (alone-in c lock vs h.1)
+  -- where no other connection may write the row, the connection sees no other unit's pending version of it
+  alone-in : (c : Conn) → ((d : Conn) → has_write_lock head w.holds d t r ≡ true → c ≡ d) → (vs : List Version)
+      → Each (IfPending (MakerOf head w.unit w.holds t r)) vs → is_pending_beside (unit_of w c) vs ≡ false
+  alone-in c only [] h = refl
+  alone-in c only (v ∷ vs) h = off v.pending (v.unit == unit_of w c) (is_pending_beside (unit_of w c) vs) (λ p. own (h.0 p)) (alone-in c only vs h.1)
     where
       same : (a b : ℕ) → a ≡ b → (a == b) ≡ true
       same a b e = grind (arith, nat_tests)
 
       own : MakerOf head w.unit w.holds t r v → (v.unit == unit_of w c) ≡ true
-      own m =
-          let is : c ≡ m.conn = conn-is c m.conn (one-writer head w s.locks t r c m.conn lock m.locks) in
-          same v.unit (unit_of w c) (sym (ap (λ o. unwrap_or o 0) (ap w.unit is ∙ m.open_unit)))
+      own m = same v.unit (unit_of w c) (sym (ap (λ o. unwrap_or o 0) (ap w.unit (only m.conn m.locks) ∙ m.open_unit)))
 
+  pub alone-where : (c : Conn) → ((d : Conn) → conn_eq c d ≡ false → has_write_lock head w.holds d t r ≡ true → ⊥) → is_changed_beside w c t r ≡ false
+  alone-where c excludes = alone-in c (λ d lock. go d lock (conn_eq c d) refl) (versions w t r) (makers-each head w s.makers t r)
+    where
+      go : (d : Conn) → has_write_lock head w.holds d t r ≡ true → (b : Bool) → conn_eq c d ≡ b → c ≡ d
+      go d lock true k = conn-is c d k
+      go d lock false k = absurd (excludes d k lock)
+
+  -- so it is of who may write the row
   pub writer-alone : (c : Conn) → has_write_lock head w.holds c t r ≡ true → is_changed_beside w c t r ≡ false
-  writer-alone c lock = alone-in c lock (versions w t r) (makers-each head w s.makers t r)
+  writer-alone c lock = alone-in c (λ d other. conn-is c d (one-writer head w s.locks t r c d lock other)) (versions w t r) (makers-each head w s.makers t r)
 
 module _ (head : Head) (w : World) (s : IsSound head w) where
   pub all-one_unit : AllOneUnit w

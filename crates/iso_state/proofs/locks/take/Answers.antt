@@ -24,4 +24,4 @@ returns-else-becomes_kept-clause-ok c =
     (taken-spared p.head (world_of p).holds c.args.conn c.args.name.now c.args.mode c.args.term c.args.spared (is_fresh_on
     (world_of p) c.args.conn c.args.name.now) refl
     (sym c.becomes_kept-becomes_kept.ensures ∙ c.if-becomes_kept.false) c.requires.long
-    (holds-once p.head (world_of p) (facts-of c.requires.stands) c.args.conn c.args.name.now)) are) c.take_spared.ensures.ok
+    (holds-once p.head (world_of p) (facts-of c.requires.stands.stands) c.args.conn c.args.name.now)) are) c.take_spared.ensures.ok

@@ -1,6 +1,7 @@
 use Rattle.std.proofs.Common.{refl}
 use Rattle.iso_conduct.specs.declared.moves.Told.{Told}
-use Rattle.iso_conduct.proofs.Classes.{at-back, at-scan, at-undo}
+use Rattle.iso_conduct.proofs.Classes.{at-back, at-granted, at-scan, at-undo}
+use Rattle.iso_conduct.proofs.Staged.{on-err}
 use Rattle.iso_conduct.proofs.course.Course.told_stage.Goals as goal
 
 pub look_done-requires-clause-stage : goal.look_done-requires-clause-stage
@@ -20,3 +21,7 @@ undos_done-requires-clause-stage c = at-undo _ c.args.self.now c.requires.sound.
 
 pub back_to-requires-clause-stage : goal.back_to-requires-clause-stage
 back_to-requires-clause-stage c = at-back _ c.args.self.now c.requires.sound.at c.in-Floor.mark (rw c.in-Floor.is at c.requires.answers)
+
+pub returns-in_err-stage_done-in-Granted-clause-err : goal.returns-in_err-stage_done-in-Granted-clause-err
+returns-in_err-stage_done-in-Granted-clause-err c =
+    on-err c.from_residual-in_err-stage_done-in-Granted.result (absurd (at-granted _ c.args.self.now c.requires.sound.at (rw c.in-Granted.is at c.requires.answers)))
