@@ -1,9 +1,9 @@
-ghost use Rattle.std.specs.Prelude.{drop, List, ◌≡◌, ◌<◌, ◌≤◌, [], IfOk, OnOk, OnErr, false, if◌then◌else◌, None, count_by, filter, length, map, slice_index_or, slice_set};
-ghost use Rattle.iso_locklist.specs.Holding.{AreAsked, AreNew, AreOfHead, IsNew, all_added, HasTables, LocksAre, WaitsOnce, room_in_lists, settled_beside};
-ghost use Rattle.iso_locklist.specs.Lists.{asked_for, IsHeads, IsHeadsIn, IsSingle, IsSingleIn, StaySingle, claimed_holds, claimed_waits, grants_in, holds_in, named_hold, named_wait, waits_in};
-ghost use Rattle.iso_locklist.specs.Places.{IsLimited, IsSameLimits, all_taken, cancelled, each_line, edges_in, is_covered, is_grantable_in, is_spared, line_at, need_of, released, room_for, room_to_ask, taken, wait_in, changed, changed_in};
+ghost use Rattle.std.specs.Prelude.{drop, List, ◌≡◌, ◌<◌, ◌≤◌, [], IfOk, OnOk, OnErr, false, if◌then◌else◌, None, length, map, slice_index_or, slice_set};
+ghost use Rattle.iso_locklist.specs.Holding.{AreAsked, AreNew, AreOfHead, IsNew, all_added, HasTables, LocksAre, WaitsOnce, room_asked, room_in_lists, settled_beside};
+ghost use Rattle.iso_locklist.specs.Lists.{asked_for, IsSingleIn, claimed_holds, claimed_waits, grants_in, named_hold};
+ghost use Rattle.iso_locklist.specs.Places.{IsLimited, IsSameLimits, all_taken, cancelled, each_line, edges_in, is_covered, is_grantable_in, is_spared, line_at, released, room_for, room_to_ask, taken, wait_in, changed, changed_in};
 ghost use Rattle.iso_locklist.specs.declared.places.Place.{Place as Entry};
-ghost use Rattle.iso_queue.specs.Lines.{asked, bits_of, claimed, hold_of, is_granted, is_guarded_against, is_used, settled, wait_for, would_wait};
+ghost use Rattle.iso_queue.specs.Lines.{asked, bits_of, claimed, hold_of, is_granted, is_guarded_against, is_used, settled};
 ghost use Rattle.iso_queue.specs.Locks.{Hold as Held, added, collapsed, dropped, freed, hold_on, others_guard, without_briefs};
 ghost use Rattle.iso_queue.specs.Limits as limits;
 ghost use Rattle.iso_modes.specs.declared.Term.TheVariants as Terms;
@@ -16,7 +16,6 @@ ghost use Rattle.std.specs.Option.{option_map, option_map_or};
 ghost use Rattle.iso_queue.specs.declared.types.Asked.{Asked as Outcome};
 ghost use Rattle.iso_queue.specs.declared.types.Claimed.{Claimed as Answer};
 ghost use Rattle.iso_types.specs.Ids.{conn_eq, name_eq};
-ghost use Rattle.iso_types.specs.declared.value.Conn.{Conn as Who};
 ghost use Rattle.iso_types.specs.declared.value.Name.{Name as Other};
 ghost use Rattle.iso_types.specs.Head.{lock_share, lock_slots};
 ghost use Rattle.iso_types.specs.declared.head.Head.{Head as Declared};
@@ -188,15 +187,33 @@ impl LockList {
         term: Term,
     ) -> Result<Asked, LockFault>
         requires { conn.0 < 32 }
-        ensures limit { IsLimited (room_to_ask self.old conn name mode) result }
-        ensures answer { IfOk result (λ a. a ≡ (if is_granted (line_at self.old.places name) conn mode then Outcome.Granted else Outcome.Queued)) }
-        ensures line { OnOk result (line_at self.new.places name ≡ asked (line_at self.old.places name) conn mode term) }
-        ensures others { (n : Other) → name_eq name n ≡ false → line_at self.new.places n ≡ line_at self.old.places n }
+        ensures limit { (head : Declared) (hs : List Held) (xs : List Awaiting) → LocksAre hs xs self.old → AreOfHead head hs xs → IsLimited (room_asked head self.old hs xs conn name mode) result }
+        ensures answer { (hs : List Held) (xs : List Awaiting) → LocksAre hs xs self.old → is_waiting xs conn ≡ false → IfOk result (λ a. a ≡ (if grants_in hs xs conn name mode then Outcome.Granted else Outcome.Queued)) }
         ensures lists { (hs : List Held) (xs : List Awaiting) → LocksAre hs xs self.old → is_waiting xs conn ≡ false → OnOk result (AreAsked (grants_in hs xs conn name mode) hs xs conn name mode term self.new) }
         ensures limits { IsSameLimits self.new self.old }
         ensures err { OnErr result (self.new ≡ self.old) }
     {
-        let name = &name;
+        let _ = &self.places;
+        self.request_at(conn, &name, mode, term)
+    }
+
+    /// The same, told by the line of the name.
+    fn request_at(
+        &mut self,
+        conn: Conn,
+        name: &Name,
+        mode: Mode,
+        term: Term,
+    ) -> Result<Asked, LockFault>
+        requires { conn.0 < 32 }
+        ensures limit { IsLimited (room_to_ask self.old conn name.now mode) result }
+        ensures answer { IfOk result (λ a. a ≡ (if is_granted (line_at self.old.places name.now) conn mode then Outcome.Granted else Outcome.Queued)) }
+        ensures line { OnOk result (line_at self.new.places name.now ≡ asked (line_at self.old.places name.now) conn mode term) }
+        ensures others { (n : Other) → name_eq name.now n ≡ false → line_at self.new.places n ≡ line_at self.old.places n }
+        ensures lists { (hs : List Held) (xs : List Awaiting) → LocksAre hs xs self.old → is_waiting xs conn ≡ false → OnOk result (AreAsked (grants_in hs xs conn name.now mode) hs xs conn name.now mode term self.new) }
+        ensures limits { IsSameLimits self.new self.old }
+        ensures err { OnErr result (self.new ≡ self.old) }
+    {
         let at = conn.0 as usize;
         let need = need(&self.places, conn, name);
         let room = room_in(self.counts[at], self.total, self.share, self.slots, need);
