@@ -20,3 +20,4 @@ pub mod Classes
 pub mod Writes
 pub mod Replies
 pub mod Fitting
+pub mod Leads

@@ -1,12 +1,16 @@
-ghost use Rattle.std.specs.Prelude.{◌≡◌, ◌++◌, true, false, length, List, [], ◌∷◌, Option};
+//! Laws of conduct and of legal histories, each as the contract of a function without a body.
+
+ghost use Rattle.std.specs.Prelude.{◌≡◌, ◌++◌, true, false, length, List, [], ◌∷◌, Option, Some};
 ghost use Rattle.iso_conduct.specs.Conduct.{MayIn, is_by, point_after, stops_for_memory};
 ghost use Rattle.iso_conduct.specs.Legal.{AreGuarded, IsFinished, IsLegal};
-ghost use Rattle.iso_conduct.specs.Pacing.{lines_left};
+ghost use Rattle.iso_conduct.specs.Pacing.{FirstLine, lines_left};
 ghost use Rattle.iso_conduct.specs.Parts.{Part};
 ghost use Rattle.iso_conduct.specs.Points.{Point, updated_columns};
+ghost use Rattle.iso_conduct.specs.Schedule.{first_step};
 ghost use Rattle.iso_conduct.specs.Whole.{IsWhole};
 ghost use Rattle.iso_conduct.specs.Courses.{fits_table, key_within, keyed_within, reads_within};
 ghost use Rattle.iso_history.specs.After.{world};
+ghost use Rattle.iso_history.specs.Legal.{ByDispatcher};
 ghost use Rattle.iso_history.specs.Makers.{by_dispatcher};
 ghost use Rattle.iso_history.specs.Phases.{phase};
 ghost use Rattle.iso_history.specs.World.{World};
@@ -63,4 +67,11 @@ pub fn shown_rows_suit()
         → reads_within s (updated_columns head s) row ≡ true }
     ensures key { (head : Head) (t : TableId) (row : List Value) (ps : List Part) → row_fits head t row ≡ true
         → keyed_within (length (columns_of head t)) ps ≡ true → key_within ps row ≡ true }
+{}
+
+/// The dispatcher's first step of Victim, Purge, the next line's entry, Close and Finish is one that may stand on the history,
+/// where the first line left is one of the head's: so a serial run's dispatcher has only to look whether it is full.
+pub fn first_steps_stand()
+    ensures { (head : Head) (w : World) (lines : List Line) (a : Act) → FirstLine head lines → first_step head w lines ≡ Some a
+        → ByDispatcher head w a × (w.pace.finished ≡ false) }
 {}
