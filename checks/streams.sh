@@ -3,7 +3,7 @@
 top=$(CDPATH= cd -- "$(dirname -- "$0")/.." && pwd) || exit 1
 program=$top/crates/db2iso/out/db2iso
 script=$top/examples/first.script
-[ -x "$program" ] || { echo "streams: not tried, since the program is not built here (bin/db2iso builds it)"; exit 0; }
+[ -x "$program" ] || { echo "streams: not tried, since the program is not built here (bin/db2iso builds it)"; exit 1; }
 bad=0
 want() { # what, the status that is wanted, the status that came
     [ "$2" = "$3" ] || { echo "streams: $1: status $3 in place of $2"; bad=1; }

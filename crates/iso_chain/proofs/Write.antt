@@ -72,10 +72,10 @@ works-added w p c u x s kept lt e own none =
     ∙ added-work w.records (w.marks c) x u (length p.log) (own ∙ unit) none (length-log p.log w s.log))
 
 -- the record of a change
-next-note : (w : World) (p : Chained) (c : Conn) (u : ℕ) (t : TableId) (r : Rid) (change : Change) (prev prev2 : Option ℕ) → AreChained w p
-    → c.0 < length p.book.works
-    → w.unit c ≡ Some u → undoes_of change ≡ None → prev ≡ prev2 → note_of_record (next_record p c t r change prev) ≡ change_note w (unit_of w c) t r prev2
-next-note w p c u t r change prev prev2 s lt e none same =
+next-note : (w : World) (p : Chained) (c : Conn) (u : ℕ) (t : TableId) (r : Rid) (change : Change) (prev prev2 : Option ℕ)
+    (after : Option (List Value)) → AreChained w p → c.0 < length p.book.works
+    → w.unit c ≡ Some u → undoes_of change ≡ None → prev ≡ prev2 → note_of_record (next_record p c t r change prev after) ≡ change_note w (unit_of w c) t r prev2
+next-note w p c u t r change prev prev2 after s lt e none same =
     let unit : unit_of w c ≡ u = ap (λ o. unwrap_or o 0) e in
     rw (own-is p w c u s lt e, unit, none, same) refl
 
@@ -105,7 +105,7 @@ written-parts w p c t r row s kept lt may = record {
       (rw same (written-stands (slot_in p.tables t r) (pending_version w (unit_of w c) row) (versions w t r) may.old row refl refl may.shows
       (s.slots.each t r)));
   log = log-more p.log w.records w.changes _ _ _ s.log refl
-      (next-note w p c may.unit t r _ _ _ s lt may.open_unit (no-undo _ row) (s.slots.each t r).head)
+      (next-note w p c may.unit t r _ _ _ row s lt may.open_unit (no-undo _ row) (s.slots.each t r).head)
       (change-is may.old (present (versions w t r)) row (slot_in p.tables t r).row may.shows is);
   works = works-added w p c may.unit _ s kept lt may.open_unit refl refl;
   begun = s.begun;
@@ -147,9 +147,9 @@ insert-chained h w p c t r row s kept lt may = record {
   slots = slots-add p.tables w.tables t _ _ s.slots may.table
       (added-stands _ (pending_version w (unit_of w c) (Some row)) row refl refl refl refl (ap Some same) (ap Some same));
   log = log-more p.log w.records w.changes _ _ _ s.log refl
-      (subst (λ (n : ℕ). note_of_record (next_record p c t (record { 0 = n }) Insert None) ≡ change_note w (unit_of w c) t (next_rid w t) None)
+      (subst (λ (n : ℕ). note_of_record (next_record p c t (record { 0 = n }) Insert None (Some row)) ≡ change_note w (unit_of w c) t (next_rid w t) None)
       (sym (s.slots.long t))
-      (next-note w p c may.unit t (next_rid w t) Insert None None s lt may.open_unit refl refl)) refl;
+      (next-note w p c may.unit t (next_rid w t) Insert None None (Some row) s lt may.open_unit refl refl)) refl;
   works = works-added w p c may.unit _ s kept lt may.open_unit refl refl;
   begun = s.begun;
 }

@@ -9,3 +9,4 @@ pub mod Lines
 pub mod Firsts
 pub mod Laws
 pub mod Asked
+pub mod Carried

@@ -18,7 +18,7 @@ note_of_record n =
 
 -- what stands for a record that is not there
 abbrev pub no_record : Record
-no_record = record { number = 0; unit = 0; table = record { 0 = 0 }; rid = record { 0 = 0 }; change = no_change; prev_row = None; prev_unit = None }
+no_record = record { number = 0; unit = 0; table = record { 0 = 0 }; rid = record { 0 = 0 }; change = no_change; prev_row = None; prev_unit = None; after = None }
 
 -- record n
 abbrev pub record_at : List Record → ℕ → Record

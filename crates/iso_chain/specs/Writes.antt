@@ -30,9 +30,9 @@ with_slot tables t r s = slice_set tables t.0 (slice_set (slots_of tables t) r.0
 abbrev pub with_more : List (List Slot) → TableId → Slot → List (List Slot)
 with_more tables t s = slice_set tables t.0 (slots_of tables t ++ s ∷ [])
 
--- the record of a change of the connection's unit
-abbrev pub next_record : Chained → Conn → TableId → Rid → Change → Option ℕ → Record
-next_record p c t r change prev = record {
+-- the record of a change of the connection's unit, with the row that it makes
+abbrev pub next_record : Chained → Conn → TableId → Rid → Change → Option ℕ → Option (List Value) → Record
+next_record p c t r change prev after = record {
   number = length p.log;
   unit = (own_work p c).number;
   table = t;
@@ -40,6 +40,7 @@ next_record p c t r change prev = record {
   change = change;
   prev_row = prev;
   prev_unit = (own_work p c).last;
+  after = after;
 }
 
 -- its record is the unit's last
@@ -60,7 +61,7 @@ change_from old None = Delete
 abbrev pub written : Chained → Conn → TableId → Rid → Option (List Value) → Chained
 written p c t r row = let s = slot_in p.tables t r in record {
   tables = with_slot p.tables t r (written_slot s (length p.log) row);
-  log = p.log ++ next_record p c t r (change_from s.row row) s.head ∷ [];
+  log = p.log ++ next_record p c t r (change_from s.row row) s.head row ∷ [];
   book = book_added p c;
 }
 
@@ -72,7 +73,7 @@ made_slot n row = record { row = row; live = true; head = Some n; first = Some n
 abbrev pub inserted : Chained → Conn → TableId → List Value → Chained
 inserted p c t row = record {
   tables = with_more p.tables t (made_slot (length p.log) row);
-  log = p.log ++ next_record p c t (record { 0 = length (slots_of p.tables t) }) Insert None ∷ [];
+  log = p.log ++ next_record p c t (record { 0 = length (slots_of p.tables t) }) Insert None (Some row) ∷ [];
   book = book_added p c;
 }
 
@@ -87,7 +88,7 @@ undone_slot n s = record {
 
 -- the record of an undo
 abbrev pub undo_record : Chained → Conn → ℕ → Record
-undo_record p c n = record (record_at p.log n) { number = length p.log; unit = (own_work p c).number; change = Undone n }
+undo_record p c n = record (record_at p.log n) { number = length p.log; unit = (own_work p c).number; change = Undone n; after = None }
 
 -- an Undo
 abbrev pub taken_back : Chained → Conn → ℕ → Chained

@@ -15,6 +15,7 @@ use iso_record::{Change, Record};
 use iso_table::{Slot, Table};
 use iso_types::{Conn, Items, Memory, Rid, Row, TableId, Value};
 use iso_uow::Units;
+use std::alloc::Global;
 
 /// The number of the connection's open unit.
 fn own_unit(units: &Units, conn: Conn) -> u32
@@ -39,7 +40,7 @@ fn record_of(log: &Log, number: u32) -> &Record
     }
 }
 
-/// The record of a change that the connection's unit makes next.
+/// The record of a change that the connection's unit makes next, with the row that it makes.
 fn record_next(
     log: &Log,
     units: &Units,
@@ -48,6 +49,7 @@ fn record_next(
     rid: Rid,
     change: Change,
     prev_row: Option<u32>,
+    after: Option<Row>,
 ) -> Record
     requires conn { conn.0 < length units.now.works }
     requires has_unit { IsSome (work_at units.now.works conn) }
@@ -59,6 +61,7 @@ fn record_next(
       change = change;
       prev_row = prev_row;
       prev_unit = (own units.now.works conn).last;
+      after = after;
     } }
 {
     Record {
@@ -69,6 +72,7 @@ fn record_next(
         change,
         prev_row,
         prev_unit: units.last(conn),
+        after,
     }
 }
 
@@ -107,6 +111,7 @@ pub fn take_back(
         change: Change::Undone(number),
         prev_row: note.prev_row,
         prev_unit: last,
+        after: None,
     };
     log.append_reserved(undo);
     units.undone(conn, last);
@@ -124,9 +129,11 @@ pub fn slot_of(tables: &Items<Table>, table: TableId, rid: Rid) -> &Slot
     }
 }
 
-/// Writes an update: the slot has a new row, and the log its record with the old values of the changed columns. It is
-/// `LogFull` exactly where the change would be past the log. After a fault all is as before, and the row is dropped.
+/// Writes an update: the slot has a new row, and the log its record with the old values of the changed columns and a copy of
+/// the new row. It is `LogFull` exactly where the change would be past the log; that is tried before memory is taken. After a
+/// fault all is as before, and the row is dropped.
 pub fn update(
+    alloc: Global,
     tables: &mut Items<Table>,
     log: &mut Log,
     units: &mut Units,
@@ -151,9 +158,17 @@ pub fn update(
     ensures window { log.new.window ≡ log.old.window }
     ensures logmax { log.new.logmax ≡ log.old.logmax }
 {
+    if log.full(oldest, debt) {
+        return Err(LogFault::LogFull);
+    }
+    let after = match row.copied(alloc) {
+        Ok(copy) => Some(copy),
+        Err(_) => return Err(LogFault::Memory),
+    };
     let prev_row = slot_of(tables, table, rid).head;
     let number = log.len();
-    let note = record_next(log, units, conn, table, rid, Change::Update(list), prev_row);
+    let change = Change::Update(list);
+    let note = record_next(log, units, conn, table, rid, change, prev_row, after);
     match log.append(note, oldest, debt) {
         Ok(()) => {
             write_slot(tables, table, rid, number, row);
@@ -190,7 +205,7 @@ pub fn delete(
 {
     let prev_row = slot_of(tables, table, rid).head;
     let number = log.len();
-    let note = record_next(log, units, conn, table, rid, Change::Delete, prev_row);
+    let note = record_next(log, units, conn, table, rid, Change::Delete, prev_row, None);
     match log.append(note, oldest, debt) {
         Ok(()) => {
             kill_slot(tables, table, rid, number);
@@ -258,9 +273,11 @@ fn add_slot(tables: &mut Items<Table>, table: TableId, number: u32, row: Row)
     add_in(tables.item_mut(table.0 as usize), number, row);
 }
 
-/// Writes an insertion: the table has one more slot, and the log its record. It is `LogFull` exactly where the change would
-/// be past the log. After a fault all is as before, and the row is dropped.
+/// Writes an insertion: the table has one more slot, and the log its record with a copy of the row. It is `LogFull` exactly
+/// where the change would be past the log; that is tried before memory is taken. After a fault all is as before, and the row
+/// is dropped.
 pub fn insert(
+    alloc: Global,
     tables: &mut Items<Table>,
     log: &mut Log,
     units: &mut Units,
@@ -285,13 +302,17 @@ pub fn insert(
     if log.full(oldest, debt) {
         return Err(LogFault::LogFull);
     }
+    let after = match row.copied(alloc) {
+        Ok(copy) => Some(copy),
+        Err(_) => return Err(LogFault::Memory),
+    };
     match reserve_slot(tables, table) {
         Ok(()) => {}
         Err(_) => return Err(LogFault::Memory),
     }
     let rid = Rid(slots_in(tables, table));
     let number = log.len();
-    let note = record_next(log, units, conn, table, rid, Change::Insert, None);
+    let note = record_next(log, units, conn, table, rid, Change::Insert, None, after);
     match log.append(note, oldest, debt) {
         Ok(()) => {
             add_slot(tables, table, number, row);

@@ -13,6 +13,7 @@ ghost use Rattle.iso_types.specs.declared.value.Rid.{Rid};
 ghost use Rattle.iso_types.specs.declared.value.TableId.{TableId};
 ghost use Rattle.iso_types.specs.declared.value.Value.{Value};
 ghost use Rattle.iso_chain.specs.Facts.{AreKept, MayAdd, MayUndo, MayWrite};
+ghost use Rattle.iso_chain.specs.Carried.{CarriesRows, RowsLaw};
 ghost use Rattle.iso_chain.specs.Laws.{ChainsLaw, StepsLaw};
 ghost use Rattle.iso_chain.specs.Stands.{AreChained, Chained};
 
@@ -41,4 +42,10 @@ pub fn entries_give_writes()
         → Allowed head w (by_agent c (Update t r row)) → MayWrite w c t r (Some row) }
     ensures delete { (head : Head) (w : World) (c : Conn) (t : TableId) (r : Rid) → IsSound head w → LogSound head w
         → Allowed head w (by_agent c (Delete t r)) → MayWrite w c t r None }
+{}
+
+/// The log carries the new row of each Insert and Update of the history, and what the steps write carries them with their
+/// entries. The first log is empty, as the first history is.
+pub fn records_carry_rows()
+    ensures { (p : Chained) (c : Conn) (es : List Entry) → CarriesRows p.log es → RowsLaw p c es }
 {}

@@ -6,7 +6,8 @@ use Rattle.iso_conduct.proofs.Plain.{legal-guarded}
 use Rattle.iso_conduct.proofs.Walks.{AllGood, AtOk, HeardOk, LookOk, PointGood, Seen, Stood, good-more, good-ready, good-told_all, no_end-more, no_end-none}
 use Rattle.iso_conduct.specs.Conduct.{Conduct, ConductFrom, IsNext, MayIn, Rolls, closing_act, ends, heard, heard_lock, is_by, made, moved, moved_by, moved_in, point_after, ready, stops_for_memory}
 use Rattle.iso_conduct.specs.Legal.{AreGuarded, IsLegal}
-use Rattle.iso_conduct.specs.Outcomes.{act_of, asked_by, at_limit, blocked_by, escalated_by, last_of, limited_by, look_act, looked_by, next_by, unless_full, written_by}
+use Rattle.iso_conduct.specs.Outcomes.{act_of}
+use Rattle.iso_history.specs.Outcomes.{asked_by, at_limit, blocked_by, escalated_by, last_record, limited_by, look_act, look_by, next_by, unless_full, written_by}
 use Rattle.iso_conduct.specs.Parts.{Part, Walk}
 use Rattle.iso_conduct.specs.Parts.Part.{EntryLook, IndexScan}
 use Rattle.iso_conduct.specs.Points.{Haul, Point, due, due_by, row_due, rows_due, told_all}
@@ -82,14 +83,14 @@ module _ (head : Head) (w : World) (c : Conn) (mv : Move) where
   made-blocked n m (Gives got) = tt
   made-blocked n m Limit = made-limit
 
-  made-seen : (t : TableId) (r : Rid) (want : Want) (o : Outcome) → mv ≡ Move.Look t r want → Made mv (looked_by head w c t r want o)
+  made-seen : (t : TableId) (r : Rid) (want : Want) (o : Outcome) → mv ≡ Move.Look t r want → Made mv (look_by head w c t r want o)
   made-seen t r want (Gives got) e = e
   made-seen t r want Limit e = made-limit
 
   made-look : (t : TableId) (r : Rid) (want : Want) → mv ≡ Move.Look t r want → Made mv (look_act head w c t r want)
   made-look t r want e = go (nat_lt r.0 (slots w t))
     where
-      go : (b : Bool) → Made mv (if b then looked_by head w c t r want (look head w c t r want) else ScanEnd t (slots w t))
+      go : (b : Bool) → Made mv (if b then look_by head w c t r want (look head w c t r want) else ScanEnd t (slots w t))
       go true = made-seen t r want (look head w c t r want) e
       go false = tt
 
@@ -382,7 +383,7 @@ module _ (head : Head) (es : List Entry) (c : Conn) (n : ℕ) (i : IndexId) (t :
       let r = ready head lines w c o in
       let a = Next i range (Some q) true got in
       chained-point r got (made-rolls head w c r a k) (rolls-some w r a k) (good-ready head es c n lines w o h)
-  chained-in lines w o got Phase.Closing h k = absurd (closing-not (last_of w c) got k)
+  chained-in lines w o got Phase.Closing h k = absurd (closing-not (last_record w c) got k)
   chained-in lines w o got _ h k = absurd k
 
 some-entry : (e f : Entry) → Some e ≡ Some f → e ≡ f

@@ -3,7 +3,8 @@ use Rattle.std.proofs.Common.{◌≡◌, Bool, true, false, List, [], ◌∷◌,
 use Rattle.std.specs.Prelude.{nat_lt}
 use Rattle.iso_conduct.specs.Answers.{AreAnswers, answers, answers_ask}
 use Rattle.iso_conduct.specs.Conduct.{heard, made}
-use Rattle.iso_conduct.specs.Outcomes.{act_of, asked_by, blocked_by, escalated_by, limited_by, looked_by, next_by, written_by}
+use Rattle.iso_conduct.specs.Outcomes.{act_of}
+use Rattle.iso_history.specs.Outcomes.{asked_by, blocked_by, escalated_by, limited_by, look_by, next_by, written_by}
 use Rattle.iso_conduct.specs.Points.{Point, due, row_due, rows_due}
 use Rattle.iso_conduct.specs.declared.moves.Move.{Move}
 use Rattle.iso_conduct.specs.declared.moves.Told.{Told}
@@ -90,7 +91,7 @@ module _ (head : Head) (w v : World) (c : Conn) where
   asked-heard p n m e Limit = limit-heard p _ e (lock-asks n m) (escalation head w c)
 
   looked-heard : (p : Point) (t : TableId) (r : Rid) (want : Want) → due p ≡ Move.Look t r want → (o : Outcome)
-      → AreAnswers p (heard w v c (looked_by head w c t r want o))
+      → AreAnswers p (heard w v c (look_by head w c t r want o))
   looked-heard p t r want e (Gives Got.Granted) = one p _ _ e refl
   looked-heard p t r want e (Gives (Got.Queued x)) = one p _ _ e refl
   looked-heard p t r want e (Gives Got.TimedOut) = one p _ _ e refl
@@ -124,7 +125,7 @@ module _ (head : Head) (w v : World) (c : Conn) where
   act-heard p row rows Move.Claim e = one p _ _ e refl
   act-heard p row rows (Move.Look t r want) e = go (nat_lt r.0 (slots w t))
     where
-      go : (b : Bool) → AreAnswers p (heard w v c (if b then looked_by head w c t r want (look head w c t r want) else Act.ScanEnd t (slots w t)))
+      go : (b : Bool) → AreAnswers p (heard w v c (if b then look_by head w c t r want (look head w c t r want) else Act.ScanEnd t (slots w t)))
       go true = looked-heard p t r want e (look head w c t r want)
       go false = one p _ _ e refl
   act-heard p row rows (Move.Next i range at b) e = next-heard p i range at b e (next head w c i range at b)

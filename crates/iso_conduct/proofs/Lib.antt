@@ -19,5 +19,9 @@ pub mod Staged
 pub mod Classes
 pub mod Writes
 pub mod Replies
+pub mod ProgressHolders
+pub mod ProgressOver
+pub mod ProgressEdges
+pub mod Progress
 pub mod Fitting
 pub mod Leads

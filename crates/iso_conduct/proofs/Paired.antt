@@ -7,7 +7,8 @@ use Rattle.iso_conduct.proofs.Open.{eq-same}
 use Rattle.iso_conduct.proofs.Queues.{is_claim_next, says_wait, told-next}
 use Rattle.iso_conduct.specs.Answers.{AreAnswers}
 use Rattle.iso_conduct.specs.Conduct.{heard, made}
-use Rattle.iso_conduct.specs.Outcomes.{act_of, asked_by, blocked_by, escalated_by, limited_by, looked_by, next_by, written_by}
+use Rattle.iso_conduct.specs.Outcomes.{act_of}
+use Rattle.iso_history.specs.Outcomes.{asked_by, blocked_by, escalated_by, limited_by, look_by, next_by, written_by}
 use Rattle.iso_conduct.specs.Points.{Point, due, row_due, rows_due, told_all, told_point}
 use Rattle.iso_conduct.specs.declared.moves.Move.{Move}
 use Rattle.iso_conduct.specs.declared.moves.Told.{Told}
@@ -109,7 +110,7 @@ module _ (head : Head) (w v : World) (c : Conn) where
     asked-paired n m (Gives Got.TimedOut) = idle
     asked-paired n m Limit = limit-paired (escalation head w c)
 
-    looked-paired : (t : TableId) (r : Rid) (want : Want) (o : Outcome) → IsPaired (looked_by head w c t r want o)
+    looked-paired : (t : TableId) (r : Rid) (want : Want) (o : Outcome) → IsPaired (look_by head w c t r want o)
     looked-paired t r want (Gives Got.Granted) = idle
     looked-paired t r want (Gives (Got.Queued x)) = joins w.holds (record { name = _; conn = c; target = x; term = _ }) w.waits
     looked-paired t r want (Gives Got.TimedOut) = idle
@@ -141,7 +142,7 @@ module _ (head : Head) (w v : World) (c : Conn) where
   act-paired row rows Move.Claim idle = quits c w.waits
   act-paired row rows (Move.Look t r want) idle = go (nat_lt r.0 (slots w t))
     where
-      go : (b : Bool) → IsPaired (if b then looked_by head w c t r want (look head w c t r want) else Act.ScanEnd t (slots w t))
+      go : (b : Bool) → IsPaired (if b then look_by head w c t r want (look head w c t r want) else Act.ScanEnd t (slots w t))
       go true = looked-paired (idle refl) t r want (look head w c t r want)
       go false = idle refl
   act-paired row rows (Move.Next i range at b) idle = next-paired (idle refl) i range at b (next head w c i range at b)

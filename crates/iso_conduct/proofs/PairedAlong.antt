@@ -8,7 +8,8 @@ use Rattle.iso_conduct.proofs.Open.{eq-is, eq-same, eq-turned}
 use Rattle.iso_conduct.proofs.Paired.{IsPaired, is_claim_move, made-next, made-paired, quits, says_last}
 use Rattle.iso_conduct.proofs.Queues.{is_claim_next, says_wait, told-next}
 use Rattle.iso_conduct.specs.Conduct.{Conduct, ConductFrom, Does, IsNext, is_by, point, point_after, point_from, MayIn, ends, has_left, heard, made, moved_in, opened, quiet, quiet_back, quiet_claim, quieted, ready, statement_at, stops_for_memory}
-use Rattle.iso_conduct.specs.Outcomes.{act_of, unless_full}
+use Rattle.iso_conduct.specs.Outcomes.{act_of}
+use Rattle.iso_history.specs.Outcomes.{unless_full}
 use Rattle.iso_conduct.specs.Parts.{Part, listed}
 use Rattle.iso_conduct.specs.Parts.Part.{Claims}
 use Rattle.iso_conduct.specs.Points.{Haul, Point, due, due_by, row_due, rows_due, start_point, told_all, told_point}

@@ -4,7 +4,8 @@ use Rattle.std.specs.Option.{option_map}
 use Rattle.std.specs.Prelude.{IsTrue, nat_lt}
 use Rattle.iso_conduct.specs.Conduct.{Conduct, ConductFrom, IsNext, MayIn, Rolls, closing_act, ends, heard, is_by, made, moved, moved_by, moved_in, opened, point_after, quiet, quieted, ready, statement_at, stops_for_memory}
 use Rattle.iso_conduct.specs.Legal.{AreGuarded, IsLegal}
-use Rattle.iso_conduct.specs.Outcomes.{act_of, asked_by, at_limit, blocked_by, escalated_by, last_of, limited_by, look_act, looked_by, next_by, unless_full, written_by}
+use Rattle.iso_conduct.specs.Outcomes.{act_of}
+use Rattle.iso_history.specs.Outcomes.{asked_by, at_limit, blocked_by, escalated_by, last_record, limited_by, look_act, look_by, next_by, unless_full, written_by}
 use Rattle.iso_conduct.specs.Parts.{Part, change_want, level_in, listed, new_row, scan, select_want}
 use Rattle.iso_conduct.specs.Parts.Part.{Asks, Changes, EntryLook, Frees, IndexScan, Leaves, NewRow, Refuses, Replies, RowUpdate, TableScan}
 use Rattle.iso_conduct.specs.Points.{Haul, Point, backed_up, behind, change_part, change_parts, due, due_by, ending, fault_code, found_rows, freeing, frees, looked_by as looked_at, opened_out, past_look, queued_up, row_due, rows_due, standing_at, start_point, told_all, told_point}
@@ -256,14 +257,14 @@ module _ (head : Head) (w : World) (c : Conn) where
   plain-blocked n m (Gives got) = refl
   plain-blocked n m Limit = plain-limit
 
-  plain-seen : (t : TableId) (r : Rid) (want : Want) (o : Outcome) → is_plain (looked_by head w c t r want o) ≡ true
+  plain-seen : (t : TableId) (r : Rid) (want : Want) (o : Outcome) → is_plain (look_by head w c t r want o) ≡ true
   plain-seen t r want (Gives got) = refl
   plain-seen t r want Limit = plain-limit
 
   plain-look : (t : TableId) (r : Rid) (want : Want) → is_plain (look_act head w c t r want) ≡ true
   plain-look t r want = go (nat_lt r.0 (slots w t))
     where
-      go : (b : Bool) → is_plain (if b then looked_by head w c t r want (look head w c t r want) else ScanEnd t (slots w t)) ≡ true
+      go : (b : Bool) → is_plain (if b then look_by head w c t r want (look head w c t r want) else ScanEnd t (slots w t)) ≡ true
       go true = plain-seen t r want (look head w c t r want)
       go false = refl
 
@@ -325,7 +326,7 @@ module _ (head : Head) (w : World) (c : Conn) where
   plain-in lines Phase.Running o a h k = plain-next_one (ready head lines w c o) a (plain-ready head lines w c o h) k
   plain-in lines Phase.Waiting o a h k = plain-next_one (ready head lines w c o) a (plain-ready head lines w c o h) k
   plain-in lines Phase.Rolling o a h k = plain-rolls (ready head lines w c o) a (plain-ready head lines w c o h) k
-  plain-in lines Phase.Closing o a h k = subst (λ (z : Act). is_plain z ≡ true) k (plain-closing (last_of w c))
+  plain-in lines Phase.Closing o a h k = subst (λ (z : Act). is_plain z ≡ true) k (plain-closing (last_record w c))
   plain-in lines _ o a h k = absurd k
 
 -- ---- along a history

@@ -1,7 +1,8 @@
 -- Which own entries a connection makes under the statements that its Dispatch entries name.
 use Rattle.std.specs.Option.{option_map, option_map_or}
 use Rattle.std.specs.Prelude.{◌≡◌, ℕ, Bool, true, false, not, List, [], ◌∷◌, Option, Some, None, IsTrue, if◌then◌else◌, nat_lt, ◌==◌, find}
-use Rattle.iso_conduct.specs.Outcomes.{act_of, last_of, unless_full}
+use Rattle.iso_conduct.specs.Outcomes.{act_of}
+use Rattle.iso_history.specs.Outcomes.{last_record, unless_full}
 use Rattle.iso_conduct.specs.Points.{Point, due, row_due, rows_due, start_point, told_all, told_point}
 use Rattle.iso_conduct.specs.declared.moves.Move.{Move}
 use Rattle.iso_conduct.specs.declared.moves.Told.{Told}
@@ -68,7 +69,7 @@ quiet_claim _ reason = None
 
 -- the unit has a record at or above the floor that is not undone
 abbrev pub has_left : World → Conn → ℕ → Bool
-has_left w c floor = option_map_or (λ n. not (nat_lt n floor)) (last_of w c) false
+has_left w c floor = option_map_or (λ n. not (nat_lt n floor)) (last_record w c) false
 
 -- the unit has no mark of this name
 abbrev pub quiet_back : Option ℕ → Option Told
@@ -121,7 +122,7 @@ abbrev pub MayIn : Phase → Head → List Line → World → Conn → Option Po
 MayIn Running head lines w c o a = IsNext head w c (ready head lines w c o) a
 MayIn Phase.Waiting head lines w c o a = IsNext head w c (ready head lines w c o) a
 MayIn Rolling head lines w c o a = Rolls head w c (ready head lines w c o) a
-MayIn Closing head lines w c o a = closing_act (last_of w c) ≡ a
+MayIn Closing head lines w c o a = closing_act (last_record w c) ≡ a
 MayIn _ head lines w c o a = ⊥
 
 -- ---- what the statement learns of its entry

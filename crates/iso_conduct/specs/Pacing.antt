@@ -6,7 +6,8 @@ use Rattle.iso_history.specs.After.{after, start}
 use Rattle.iso_history.specs.Entries.{least_purgeable}
 use Rattle.iso_history.specs.Makers.{by_dispatcher}
 use Rattle.iso_history.specs.Phases.{is_phase, phase}
-use Rattle.iso_history.specs.Quiet.{is_busy, is_quiet}
+use Rattle.iso_history.specs.Outcomes.{statement_step}
+use Rattle.iso_history.specs.Quiet.{is_quiet}
 use Rattle.iso_history.specs.Stops.{is_full}
 use Rattle.iso_history.specs.World.{World}
 use Rattle.iso_history.specs.declared.entry.Act.{Act}
@@ -21,17 +22,11 @@ use Rattle.iso_script.specs.declared.script.Line.{Line}
 use Rattle.iso_script.specs.declared.script.What.{What}
 use Rattle.iso_types.specs.Head.{is_conn}
 use Rattle.iso_types.specs.declared.desk.Phase.{Phase}
-use Rattle.iso_types.specs.declared.desk.Phase.TheVariants.{Idle}
 use Rattle.iso_types.specs.declared.head.Head.{Head}
 use Rattle.iso_types.specs.declared.value.Conn.{Conn}
 use Rattle.iso_types.specs.declared.value.IndexId.{IndexId}
 use Rattle.iso_types.specs.declared.value.Rid.{Rid}
 use Rattle.iso_types.specs.declared.value.Value.{Value}
-
--- a statement line is dispatched to an idle connection, and answered Busy where it waits with an edge and lies on no cycle
-abbrev pub statement_step : Head → World → ℕ → Conn → Option Act
-statement_step head w n c =
-    if is_phase (phase w c) Idle then Some (Dispatch n c) else if is_busy head w c then Some (Busy n c) else None
 
 -- the entry that takes a line, by what it asks for and its connection
 abbrev pub step_of : Head → World → ℕ → What → Option Conn → Option Act

@@ -1,21 +1,24 @@
 //! Laws of conduct and of legal histories, each as the contract of a function without a body.
 
-ghost use Rattle.std.specs.Prelude.{◌≡◌, ◌++◌, true, false, length, List, [], ◌∷◌, Option, Some};
+ghost use Rattle.std.specs.List.{list_any};
+ghost use Rattle.std.specs.Prelude.{◌≡◌, ◌≤◌, ◌++◌, true, false, length, List, [], ◌∷◌, Option, Some};
 ghost use Rattle.iso_conduct.specs.Conduct.{MayIn, is_by, point_after, stops_for_memory};
 ghost use Rattle.iso_conduct.specs.Legal.{AreGuarded, IsFinished, IsLegal};
-ghost use Rattle.iso_conduct.specs.Pacing.{FirstLine, lines_left};
+ghost use Rattle.iso_conduct.specs.Pacing.{FirstLine, Paced, lines_left};
 ghost use Rattle.iso_conduct.specs.Parts.{Part};
 ghost use Rattle.iso_conduct.specs.Points.{Point, updated_columns};
-ghost use Rattle.iso_conduct.specs.Schedule.{first_step};
+ghost use Rattle.iso_conduct.specs.Schedule.{actors, can_act, first_step};
 ghost use Rattle.iso_conduct.specs.Whole.{IsWhole};
 ghost use Rattle.iso_conduct.specs.Courses.{fits_table, key_within, keyed_within, reads_within};
 ghost use Rattle.iso_history.specs.After.{world};
-ghost use Rattle.iso_history.specs.Legal.{ByDispatcher};
+ghost use Rattle.iso_history.specs.Legal.{ByDispatcher, Ground};
 ghost use Rattle.iso_history.specs.Makers.{by_dispatcher};
 ghost use Rattle.iso_history.specs.Phases.{phase};
+ghost use Rattle.iso_history.specs.Stops.{history_limit};
 ghost use Rattle.iso_history.specs.World.{World};
 ghost use Rattle.iso_history.specs.declared.entry.Act.{Act};
 ghost use Rattle.iso_history.specs.declared.entry.Entry.{Entry};
+ghost use Rattle.iso_script.specs.Sound.{IsSound};
 ghost use Rattle.iso_script.specs.declared.script.Line.{Line};
 ghost use Rattle.iso_script.specs.declared.script.Script.{Script};
 ghost use Rattle.iso_sql.specs.Sound.{columns_of, is_sound_statement};
@@ -58,6 +61,15 @@ pub fn finished_is_whole()
 /// other connection until the unit ends.
 pub fn legal_histories_are_guarded()
     ensures { (script : Script) (es : List Entry) → IsLegal script es → AreGuarded script es }
+{}
+
+/// No history comes to a stand before its end: where it has no Finish, the dispatcher has an entry to make, or some connection's
+/// agent is able. And none goes on for ever: it has at most 2,000,000 entries.
+pub fn some_actor_is_able()
+    ensures able { (script : Script) (es : List Entry) → IsSound script → Ground script.head es → Paced script.head script.lines es
+        → (world script.head es).pace.finished ≡ false
+        → list_any (can_act script.head (world script.head es) (lines_left script.lines es)) (actors script.head) ≡ true }
+    ensures bounded { (script : Script) (es : List Entry) → IsSound script → Ground script.head es → length es ≤ history_limit }
 {}
 
 /// A row that fits its table has all the columns that a sound statement on it reads, and the column of an index whose column

@@ -1,5 +1,6 @@
 -- What holds of a head and a history is carried over a step: to the longer history, or to the same one after want of memory.
 use Rattle.std.proofs.Common.{◌≡◌, List, sym, subst, Result, Ok, Err, OnOk, OnErr}
+use Rattle.iso_engine.specs.UnderWay.{IsOpen}
 use Rattle.iso_history.specs.declared.entry.Entry.{Entry}
 use Rattle.iso_first_state.specs.Stands.{Content}
 use Rattle.iso_types.specs.declared.head.Head.{Head}
@@ -21,3 +22,12 @@ on_ok (Err e) f p = tt
 pub either_way : {A B P Q R : Type 0} (r : Result A B) → OnOk r P → OnErr r Q → (P → R) → (Q → R) → R
 either_way (Ok x) p q f g = f p
 either_way (Err e) p q f g = g q
+
+-- one fact of an Err gives another
+pub on_err : {A B P Q : Type 0} (r : Result A B) → (P → Q) → OnErr r P → OnErr r Q
+on_err (Ok x) f p = tt
+on_err (Err e) f p = f p
+
+-- a history that was open is so where nothing has changed
+pub still_open : {A B : Type 0} (r : Result A B) (p q : Content) → IsOpen p.head p.history → OnErr r (q ≡ p) → OnErr r (IsOpen q.head q.history)
+still_open r p q open_ = on_err r (λ same. kept IsOpen p q same open_)

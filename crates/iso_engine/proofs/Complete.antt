@@ -1,11 +1,14 @@
--- A run over streams that did not fail is complete, but where memory was wanting.
+-- What came of the bytes that were taken answers for all that the source told; over streams that did not fail a run is complete, but
+-- where memory was wanting.
 use Rattle.std.proofs.Common.{◌≡◌, ℕ, ◌≤◌, ◌+◌, ◌⊎◌, inl, inr, List, [], ◌++◌, length, sym, ap, ◌∙◌, subst, Option, Some, None, length-append, arith}
 use Rattle.std.specs.Io.KnownBytes.{Consumes, IsAtEnd}
 use Rattle.std.proofs.lemmas.List.{append-nil}
 use Rattle.iso_first_conduct.proofs.Wholes.{whole}
-use Rattle.iso_engine.specs.Job.{IsAnswered, IsComplete, IsOutcome, IsScript, IsTold}
+use Rattle.iso_engine.specs.Job.{IsAnswered, IsBadWith, IsComplete, IsJudged, IsOutcome, IsScript, IsTold, RefusedWith, Refuses}
 use Rattle.iso_history.specs.declared.entry.Entry.{Entry}
+use Rattle.iso_io.specs.Moves.{AppendsPart}
 use Rattle.iso_script.proofs.Exact.{not_both, one_script}
+use Rattle.iso_script.specs.Reading.{reads}
 use Rattle.iso_script.specs.declared.script.Script.{Script}
 
 -- a source at its end has given all that it told
@@ -24,29 +27,92 @@ taken-within (Some x) (Some y) bytes told c h =
     let l : length told ≡ length bytes + length y = ap length (sym same ∙ c) ∙ length-append bytes y in
     omega (arith, l)
 
-module _ (bytes : List ℕ) (script : Script) (status : ℕ) (history : List Entry) (left old new : Option (List ℕ)) (is : IsScript bytes script)
-    (end : left ≡ Some []) (unfailed : status ≡ 3 → ⊥) (whole_sink : status ≡ 4 → ⊥) where
-  told-complete : IsTold script status history old new → IsComplete script status history left old new ⊎ (status ≡ 5)
-  told-complete t = go t.only
-    where
-      go : (status ≡ 0) ⊎ (status ≡ 4) ⊎ (status ≡ 5) → IsComplete script status history left old new ⊎ (status ≡ 5)
-      go (inl z) = inl (z, end, t.whole z, whole script history t.legal (t.finished (λ f. let q : 5 ≡ 0 = sym f ∙ z in absurd (cc))))
-      go (inr (inl f)) = absurd (whole_sink f)
-      go (inr (inr f)) = inr f
+-- an outcome of the bytes that were judged is one of those that were taken
+pub moved : (xs ys : List ℕ) (left : Option (List ℕ)) (status : ℕ) (history : List Entry) (old new : Option (List ℕ)) → xs ≡ ys
+    → IsOutcome xs left status history old new → IsOutcome ys left status history old new
+moved xs ys left status history old new e o = subst (λ b. IsOutcome b left status history old new) e o
 
-  of-outcome : IsOutcome bytes status history old new → IsComplete script status history left old new ⊎ (status ≡ 5)
-  of-outcome (inl r) = elim r.2 [
-    | inl l ↦ absurd (let h : length bytes ≤ 1048576 = is.0 in let k : length bytes ≡ 1048577 = l.0 in omega (arith, h, k))
-    | inr b ↦ absurd (not_both bytes script b.0 b.1 is.1 b.2)
-  ]
-  of-outcome (inr (inl u)) = elim u.0 [ inl f ↦ absurd (unfailed f) | inr m ↦ inr m ]
-  of-outcome (inr (inr r)) = told-complete (subst (λ s. IsTold s status history old new) (one_script bytes r.1 script r.2 is.1) r.3)
+-- what was not read is neither judged nor refused
+unjudged : (status : ℕ) → (status ≡ 3) ⊎ (status ≡ 5) → (status ≡ 0) ⊎ (status ≡ 4) → ⊥
+unjudged s (inl a) (inl b) = let q : 3 ≡ 0 = sym a ∙ b in omega arith
+unjudged s (inl a) (inr b) = let q : 3 ≡ 4 = sym a ∙ b in omega arith
+unjudged s (inr a) (inl b) = let q : 5 ≡ 0 = sym a ∙ b in omega arith
+unjudged s (inr a) (inr b) = let q : 5 ≡ 4 = sym a ∙ b in omega arith
 
--- all that a source told was read, and answered
-pub complete : (a left old new : Option (List ℕ)) (all taken bytes : List ℕ) (script : Script) (status : ℕ) (history : List Entry)
-    → Consumes a left taken → all ≡ taken → IsAtEnd left → a ≡ Some bytes → IsScript bytes script → IsAnswered all status history old new
+unrefused : (status : ℕ) → (status ≡ 3) ⊎ (status ≡ 5) → status ≡ 2 → ⊥
+unrefused s (inl a) b = let q : 3 ≡ 2 = sym a ∙ b in omega arith
+unrefused s (inr a) b = let q : 5 ≡ 2 = sym a ∙ b in omega arith
+
+-- what was taken of all that a source told, and what came of it, answers for all of it
+module _ (a left old new : Option (List ℕ)) (all bytes : List ℕ) (status : ℕ) (history : List Entry)
+    (taken : Consumes a left bytes) (told : a ≡ Some all) (o : IsOutcome bytes left status history old new) where
+  all-read : IsAtEnd left → (bytes ≡ all) × (left ≡ Some [])
+  all-read end = read-all a left bytes all taken end told
+
+  no-more : length bytes ≤ length all
+  no-more = taken-within a left bytes all taken told
+
+  judged-ended : IsOutcome bytes left status history old new → IsJudged status history → left ≡ Some []
+  judged-ended (inl r) (inl began) = absurd (began r.3)
+  judged-ended (inl r) (inr (inl z)) = absurd (let q : 2 ≡ 0 = sym r.0 ∙ z in omega arith)
+  judged-ended (inl r) (inr (inr z)) = absurd (let q : 2 ≡ 4 = sym r.0 ∙ z in omega arith)
+  judged-ended (inr (inl u)) (inl began) = absurd (began u.1)
+  judged-ended (inr (inl u)) (inr z) = absurd (unjudged status u.0 z)
+  judged-ended (inr (inr r)) j = (all-read r.0).1
+
+  headline-of : IsOutcome bytes left status history old new → (script : Script) → reads all script → (history ≡ [] → ⊥)
+      → IsTold script status history old new
+  headline-of (inl r) script is began = absurd (began r.3)
+  headline-of (inr (inl u)) script is began = absurd (began u.1)
+  headline-of (inr (inr r)) script is began =
+      subst (λ s. IsTold s status history old new)
+      (one_script all r.2 script (subst (λ b. reads b r.2) (all-read r.0).0 r.3) is) r.4
+
+  refuses-all : (text : List ℕ) → RefusedWith bytes left text → Refuses all text
+  refuses-all text (inl l) = inl (let n : length bytes ≡ 1048577 = l.0 in omega (arith, n, no-more), l.1)
+  refuses-all text (inr b) = let same = (all-read b.0).0 in
+      inr (subst (λ x. length x ≤ 1048576) same b.1, subst (λ x. IsBadWith x text) same b.2)
+
+  refused-of : IsOutcome bytes left status history old new → status ≡ 2 → (text : List ℕ) × Refuses all text × AppendsPart old new text
+  refused-of (inl r) z = (r.1, refuses-all r.1 r.2, r.4)
+  refused-of (inr (inl u)) z = absurd (unrefused status u.0 z)
+  refused-of (inr (inr r)) z = absurd (elim r.4.only [
+    | inl s ↦ let q : 2 ≡ 0 = sym z ∙ s in omega arith
+    | inr t ↦ elim t [ inl s ↦ let q : 2 ≡ 4 = sym z ∙ s in omega arith | inr s ↦ let q : 2 ≡ 5 = sym z ∙ s in omega arith ]
+  ])
+
+  exact-of : IsOutcome bytes left status history old new → (text : List ℕ) → Refuses all text → (status ≡ 2) ⊎ ((status ≡ 3) ⊎ (status ≡ 5))
+  exact-of (inl r) text f = inl r.0
+  exact-of (inr (inl u)) text f = inr u.0
+  exact-of (inr (inr r)) text (inl l) = absurd (let same : bytes ≡ all = (all-read r.0).0 in let few : length bytes ≤ 1048576 = r.1 in
+      let n : length bytes ≡ length all = ap length same in let many : 1048577 ≤ length all = l.0 in omega (arith, few, n, many))
+  exact-of (inr (inr r)) text (inr b) = absurd (not_both all r.2 b.1.0 b.1.1 (subst (λ x. reads x r.2) (all-read r.0).0 r.3) b.1.2)
+
+  pub answered : IsAnswered all left status history old new
+  answered = record { ended = judged-ended o; headline = headline-of o; refused = refused-of o; exact = exact-of o }
+
+-- a run whose transcript is written whole is complete
+told-complete : (script : Script) (status : ℕ) (history : List Entry) (left old new : Option (List ℕ)) → left ≡ Some []
+    → (status ≡ 4 → ⊥) → IsTold script status history old new → IsComplete script status history left old new ⊎ (status ≡ 5)
+told-complete script status history left old new end sink t = go t.only
+  where
+    go : (status ≡ 0) ⊎ (status ≡ 4) ⊎ (status ≡ 5) → IsComplete script status history left old new ⊎ (status ≡ 5)
+    go (inl z) = inl (z, end, t.whole z, whole script history t.legal (t.finished (λ f. let q : 5 ≡ 0 = sym f ∙ z in absurd (cc))))
+    go (inr (inl f)) = absurd (sink f)
+    go (inr (inr f)) = inr f
+
+-- a script that a source told, and that neither stream kept back, is run and told whole
+pub complete : (a left old new : Option (List ℕ)) (all bytes : List ℕ) (status : ℕ) (history : List Entry)
+    → Consumes a left bytes → a ≡ Some all → IsOutcome bytes left status history old new → (script : Script) → IsScript all script
     → (status ≡ 3 → ⊥) → (status ≡ 4 → ⊥) → IsComplete script status history left old new ⊎ (status ≡ 5)
-complete a left old new all taken bytes script status history c same end told is answer unfailed sink =
-    let r = read-all a left taken bytes c end told in
-    of-outcome bytes script status history left old new is r.1 unfailed sink
-    (subst (λ b. IsOutcome b status history old new) (same ∙ r.0) answer.outcome)
+complete a left old new all bytes status history taken told (inl r) script is source sink =
+    absurd (elim (refuses-all a left old new all bytes status history taken told (inl r) r.1 r.2) [
+      | inl l ↦ let few : length all ≤ 1048576 = is.0 in let many : 1048577 ≤ length all = l.0 in omega (arith, few, many)
+      | inr b ↦ not_both all script b.1.0 b.1.1 is.1 b.1.2
+    ])
+complete a left old new all bytes status history taken told (inr (inl u)) script is source sink =
+    elim u.0 [ inl f ↦ absurd (source f) | inr m ↦ inr m ]
+complete a left old new all bytes status history taken told (inr (inr r)) script is source sink =
+    let same = all-read a left old new all bytes status history taken told (inr (inr r)) r.0 in
+    told-complete script status history left old new same.1 sink
+    (subst (λ s. IsTold s status history old new) (one_script all r.2 script (subst (λ b. reads b r.2) same.0 r.3) is.1) r.4)

@@ -1,12 +1,13 @@
 -- The entries that end a statement, and those that end the run.
-use Rattle.std.proofs.Common.{◌≡◌, ℕ, Bool, true, false, List, [], ◌∷◌, ◌++◌, refl, sym, subst, ap, Option, Some, None, is_some, IsTrue, length, arith, ℤ, ◌≤◌}
+use Rattle.std.proofs.Common.{◌≡◌, ℕ, Bool, true, false, List, [], ◌∷◌, ◌++◌, refl, sym, subst, ap, ◌∙◌, Option, Some, None, is_some, IsTrue, length, arith, ℤ, ◌≤◌, Result, Ok, Err, OnOk, OnErr}
+use Rattle.std.specs.Prelude.{is_ok}
 use Rattle.std.proofs.lemmas.Bool.{ltb-true}
 use Rattle.iso_first_conduct.specs.Conduct.{Conduct}
-use Rattle.iso_first_conduct.specs.Legal.{IsLegal}
+use Rattle.iso_first_conduct.specs.Legal.{IsFinished, IsLegal}
 use Rattle.iso_first_conduct.specs.Points.{reply_of, reply_with, select_code, select_rows}
 use Rattle.iso_first_conduct.specs.Points.Part.{Answer, Settles}
 use Rattle.iso_engine.proofs.Ways.{idle-snoc, rests, shuts, way-snoc}
-use Rattle.iso_engine.specs.UnderWay.{IsClosing, IsIdle, IsOver, IsRunning, IsSoFar, IsUnderWay, ends_unit, first_conn}
+use Rattle.iso_engine.specs.UnderWay.{IsClosing, IsIdle, IsOpen, IsOver, IsRunning, IsSoFar, IsUnderWay, ends_unit, first_conn}
 use mir.Val.{of_z, to_z}
 use mir.Syntax.{w32}
 use Rattle.iso_first_conduct.proofs.Snoc.{Conduct-snoc, Paced-snoc}
@@ -170,3 +171,16 @@ code_back items kept z e = rw e (go items kept)
     go Items2.All (x ∷ xs) = refl
     go (Items2.Columns ks) [] = refl
     go (Items2.Columns ks) (x ∷ xs) = refl
+
+-- a history that ends with Finish is not open
+pub unfinished : (head : Head) (es : List Entry) → IsOpen head es → IsFinished es → ⊥
+unfinished head es open_ f =
+    let after-it : (world head (f.0 ++ by_dispatcher Finish ∷ [])).pace.finished ≡ true = rw (world-snoc head f.0 (by_dispatcher Finish)) refl in
+    let is : (world head es).pace.finished ≡ true = subst (λ l. (world head l).pace.finished ≡ true) (sym f.1) after-it in
+    absurd (let q : true ≡ false = sym is ∙ open_ in cc)
+
+-- an answer that is Ok for a finished history, and Err for an open one, says by its test whether that is finished
+pub says_finished : {A B : Type 0} (r : Result A B) (b : Bool) (head : Head) (es : List Entry) → b ≡ is_ok r → OnOk r (IsFinished es)
+    → OnErr r (IsOpen head es) → (IsTrue b → IsFinished es) × (IsFinished es → IsTrue b)
+says_finished (Ok x) b head es is done open_ = (λ h. done, λ h. is)
+says_finished (Err e) b head es is done open_ = (λ h. let q : true ≡ false = sym h ∙ is in absurd (cc), λ h. absurd (unfinished head es open_ h))

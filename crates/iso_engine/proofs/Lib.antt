@@ -6,6 +6,7 @@ pub mod Fitting
 pub mod Carry
 pub mod Looks
 pub mod Start
+pub mod Bounded
 pub mod Words
 pub mod Outcomes
 pub mod Complete

@@ -89,11 +89,16 @@ taken head lines es k l s can within there asks idle =
     (subst (λ x. IsIdle head lines es (x ∷ drop (k + 1) lines)) (sym there)
     (subst (λ ls. IsIdle head lines es ls) (rw add-one (drop-cons lines k l within)) idle))
 
+-- what it asks for is of this stage, and the head allows it
+pub asks-built : (head : Head) (lines : List Line) (k : ℕ) (l : Line) → CanRun head lines → k < length lines → l ≡ get_or lines k l
+    → is_built_what head l.what ≡ true
+asks-built head lines k l can within there =
+    let whole : is_built_line head (get_or lines k l) ≡ true = at_all (is_built_line head) lines k l within can.built in
+    let here : is_built_line head l ≡ true = subst (λ x. is_built_line head x ≡ true) (sym there) whole in
+    second_of (not l.free) (is_built_what head l.what) (second_of (is_first l.conn) (not l.free && is_built_what head l.what) here)
+
 -- its statement is of this stage, and the head allows it
 pub built_at : (head : Head) (lines : List Line) (k : ℕ) (l : Line) (s : Statement) → CanRun head lines → k < length lines
     → l ≡ get_or lines k l → l.what ≡ What.Statement s → is_built_what head (What.Statement s) ≡ true
 built_at head lines k l s can within there asks =
-    let whole : is_built_line head (get_or lines k l) ≡ true = at_all (is_built_line head) lines k l within can.built in
-    let here : is_built_line head l ≡ true = subst (λ x. is_built_line head x ≡ true) (sym there) whole in
-    subst (λ x. is_built_what head x ≡ true) asks
-    (second_of (not l.free) (is_built_what head l.what) (second_of (is_first l.conn) (not l.free && is_built_what head l.what) here))
+    subst (λ x. is_built_what head x ≡ true) asks (asks-built head lines k l can within there)

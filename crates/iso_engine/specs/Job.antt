@@ -2,7 +2,7 @@
 use Rattle.std.specs.Prelude.{◌≡◌, ℕ, ◌≤◌, ◌⊎◌, List, [], ◌∷◌, ◌++◌, length, Option, Some, String, codes, string_bytes, map}
 use Rattle.std.specs.Fmt.{decimal}
 use Rattle.std.specs.Global.{Global}
-use Rattle.std.specs.Io.KnownBytes.{Appends}
+use Rattle.std.specs.Io.KnownBytes.{Appends, IsAtEnd}
 use Rattle.iso_first_conduct.specs.Legal.{IsFinished, IsLegal}
 use Rattle.iso_first_conduct.specs.Whole.{IsWhole}
 use Rattle.iso_history.specs.declared.entry.Entry.{Entry}
@@ -51,9 +51,18 @@ refusal_at n why = codes "LINE " ++ decimal n ++ codes " " ++ cause_word why ++ 
 abbrev pub too_long : List ℕ
 too_long = codes "LINE 0 TOO LONG\n"
 
--- the text that refuses these bytes: there are too many, or this line is the first bad one
-abbrev pub RefusedWith : List ℕ → List ℕ → Type 0
-RefusedWith bytes text = ((length bytes ≡ 1048577) × (text ≡ too_long)) ⊎ ((n : ℕ) × (why : LineCause) × bad bytes n why × (text ≡ refusal_at n why))
+-- the text that refuses bytes with a bad line: this line is the first one
+abbrev pub IsBadWith : List ℕ → List ℕ → Type 0
+IsBadWith bytes text = (n : ℕ) × (why : LineCause) × bad bytes n why × (text ≡ refusal_at n why)
+
+-- the text that refuses the bytes that were taken: there are too many, or none is left and they have a bad line
+abbrev pub RefusedWith : List ℕ → Option (List ℕ) → List ℕ → Type 0
+RefusedWith bytes left text =
+    ((length bytes ≡ 1048577) × (text ≡ too_long)) ⊎ (IsAtEnd left × (length bytes ≤ 1048576) × IsBadWith bytes text)
+
+-- the text that refuses all the bytes of a source: there are too many, or they have a bad line
+abbrev pub Refuses : List ℕ → List ℕ → Type 0
+Refuses all text = ((1048577 ≤ length all) × (text ≡ too_long)) ⊎ ((length all ≤ 1048576) × IsBadWith all text)
 
 -- what a run of the script leaves: its history is legal; it ends with Finish but where memory was wanting; all of its transcript is
 -- written, or a part where the sink failed, or nothing where memory was wanting
@@ -66,40 +75,37 @@ pub record IsTold (script : Script) (status : ℕ) (history : List Entry) (old n
   pub only : (status ≡ 0) ⊎ (status ≡ 4) ⊎ (status ≡ 5)
 
 -- the script was refused
-abbrev pub IsRefused : List ℕ → ℕ → List Entry → Option (List ℕ) → Option (List ℕ) → Type 0
-IsRefused bytes status history old new =
-    (status ≡ 2) × (text : List ℕ) × RefusedWith bytes text × (history ≡ []) × AppendsPart old new text
+abbrev pub IsRefused : List ℕ → Option (List ℕ) → ℕ → List Entry → Option (List ℕ) → Option (List ℕ) → Type 0
+IsRefused bytes left status history old new =
+    (status ≡ 2) × (text : List ℕ) × RefusedWith bytes left text × (history ≡ []) × AppendsPart old new text
 
 -- the source failed, or there was no memory for the script: nothing is written, and no run began
 abbrev pub IsUnread : ℕ → List Entry → Option (List ℕ) → Option (List ℕ) → Type 0
 IsUnread status history old new = ((status ≡ 3) ⊎ (status ≡ 5)) × (history ≡ []) × Appends old new []
 
--- the script was read and run
-abbrev pub IsRun : List ℕ → ℕ → List Entry → Option (List ℕ) → Option (List ℕ) → Type 0
-IsRun bytes status history old new =
-    (length bytes ≤ 1048576) × (script : Script) × reads bytes script × IsTold script status history old new
+-- the source was read to its end, and the script was run
+abbrev pub IsRun : List ℕ → Option (List ℕ) → ℕ → List Entry → Option (List ℕ) → Option (List ℕ) → Type 0
+IsRun bytes left status history old new =
+    IsAtEnd left × (length bytes ≤ 1048576) × (script : Script) × reads bytes script × IsTold script status history old new
 
--- one of the three
-abbrev pub IsOutcome : List ℕ → ℕ → List Entry → Option (List ℕ) → Option (List ℕ) → Type 0
-IsOutcome bytes status history old new =
-    IsRefused bytes status history old new ⊎ (IsUnread status history old new ⊎ IsRun bytes status history old new)
+-- one of the three, of the bytes that were taken and of those that are left
+abbrev pub IsOutcome : List ℕ → Option (List ℕ) → ℕ → List Entry → Option (List ℕ) → Option (List ℕ) → Type 0
+IsOutcome bytes left status history old new =
+    IsRefused bytes left status history old new ⊎ (IsUnread status history old new ⊎ IsRun bytes left status history old new)
 
--- whatever script the bytes read as: where its run began, its history is legal, and the bytes written are its transcript
-abbrev pub IsHeadline : List ℕ → ℕ → List Entry → Option (List ℕ) → Option (List ℕ) → Type 0
-IsHeadline bytes status history old new =
-    (script : Script) → reads bytes script → (history ≡ [] → ⊥) → IsTold script status history old new
+-- the bytes were judged as a script: its run began, or the answer is that of a script that was run
+abbrev pub IsJudged : ℕ → List Entry → Type 0
+IsJudged status history = (history ≡ [] → ⊥) ⊎ ((status ≡ 0) ⊎ (status ≡ 4))
 
--- bytes with a bad line, and too many bytes, are refused, but where the source failed or memory was wanting
-abbrev pub IsExact : List ℕ → ℕ → Type 0
-IsExact bytes status =
-    ((n : ℕ) (why : LineCause) → bad bytes n why → (status ≡ 2) ⊎ ((status ≡ 3) ⊎ (status ≡ 5)))
-    × (length bytes ≡ 1048577 → (status ≡ 2) ⊎ ((status ≡ 3) ⊎ (status ≡ 5)))
-
--- all that is said of the bytes that were read
-pub record IsAnswered (bytes : List ℕ) (status : ℕ) (history : List Entry) (old new : Option (List ℕ)) : Type 0 where
-  pub outcome : IsOutcome bytes status history old new
-  pub headline : IsHeadline bytes status history old new
-  pub exact : IsExact bytes status
+-- what is said of all the bytes that a source told, not only of those that were taken. `ended`: where they were judged, none is
+-- left. `headline`: whatever script they read as, where its run began, its history is legal, and the bytes written are its
+-- transcript. `refused`, `exact`: they are refused only where they are to be, with that text, and always there, but where the
+-- source failed or memory was wanting
+pub record IsAnswered (all : List ℕ) (left : Option (List ℕ)) (status : ℕ) (history : List Entry) (old new : Option (List ℕ)) : Type 0 where
+  pub ended : IsJudged status history → left ≡ Some []
+  pub headline : (script : Script) → reads all script → (history ≡ [] → ⊥) → IsTold script status history old new
+  pub refused : status ≡ 2 → (text : List ℕ) × Refuses all text × AppendsPart old new text
+  pub exact : (text : List ℕ) → Refuses all text → (status ≡ 2) ⊎ ((status ≡ 3) ⊎ (status ≡ 5))
 
 -- the source was read to its end, all of the transcript is written, and every statement is answered
 abbrev pub IsComplete : Script → ℕ → List Entry → Option (List ℕ) → Option (List ℕ) → Option (List ℕ) → Type 0
@@ -120,5 +126,5 @@ abbrev pub IsWritten : Type 0 → Option (List ℕ) → Option (List ℕ) → Li
 IsWritten failed old new text = Appends old new text ⊎ failed
 
 -- the text that refuses the bytes is written whole, or the sink has failed
-abbrev pub TellsRefusal : List ℕ → Type 0 → Option (List ℕ) → Option (List ℕ) → Type 0
-TellsRefusal bytes failed old new = (text : List ℕ) × RefusedWith bytes text × IsWritten failed old new text
+abbrev pub TellsRefusal : List ℕ → Option (List ℕ) → Type 0 → Option (List ℕ) → Option (List ℕ) → Type 0
+TellsRefusal bytes left failed old new = (text : List ℕ) × RefusedWith bytes left text × IsWritten failed old new text

@@ -74,3 +74,7 @@ pub record IsSoFar (head : Head) (lines : List Line) (es : List Entry) : Type 0 
   pub ground : Ground head es
   pub conduct : Conduct head lines es first_conn
   pub paced : Paced head lines es
+
+-- the history does not end with Finish
+abbrev pub IsOpen : Head → List Entry → Type 0
+IsOpen head es = (world head es).pace.finished ≡ false

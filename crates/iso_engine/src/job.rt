@@ -1,18 +1,15 @@
-ghost use Rattle.std.specs.Prelude.{◌≡◌, ℕ, ◌≤◌, ◌⊎◌, Some, ◌↔◌, List, [], ◌∷◌, ◌++◌, string_bytes, length, true, IsTrue, IfOk, codes};
+ghost use Rattle.std.specs.Prelude.{◌≡◌, ℕ, ◌≤◌, ◌⊎◌, Some, Option, ◌↔◌, List, [], ◌∷◌, ◌++◌, string_bytes, length, true, IsTrue, IfOk, codes};
 ghost use Rattle.std.specs.Fmt.{decimal};
-ghost use Rattle.std.specs.Io.KnownBytes.{Appends, Consumes};
-ghost use Rattle.iso_first_conduct.specs.Legal.{IsFinished};
-ghost use Rattle.iso_history.specs.Makers.{by_dispatcher};
-ghost use Rattle.iso_history.specs.declared.entry.Act.TheVariants.{Finish as Ends};
+ghost use Rattle.std.specs.Io.KnownBytes.{Appends, Consumes, IsAtEnd};
 ghost use Rattle.iso_engine.specs.Job as spec;
-ghost use Rattle.iso_engine.specs.Job.{IsAnswered, IsComplete, IsRefusal, IsRow, IsScript, IsTold, TellsRefusal, IsWritten, refusal_at, texts, usage};
+ghost use Rattle.iso_engine.specs.Job.{IsAnswered, IsComplete, IsOutcome, IsRefusal, IsRow, IsScript, IsTold, TellsRefusal, IsWritten, refusal_at, texts, usage};
 ghost use Rattle.iso_io.specs.Moves.{AppendsPart, HasRisen};
 ghost use Rattle.iso_script.specs.Built.{IsBuilt};
 ghost use Rattle.iso_script.specs.Numbered.{rises_above};
 ghost use Rattle.iso_script.specs.declared.script.Script.{Script as Program};
 
-use crate::run::run_serial;
-use iso_history::{Act, Entry, History, Who};
+use crate::run::{SerialRun, run_serial};
+use iso_history::History;
 use iso_io::{ReadFault, Sink, Source, read_script, write_whole};
 use iso_render::transcript;
 use iso_script::{LineCause, Script, ScriptFault};
@@ -36,29 +33,6 @@ fn is_row(words: &[String]) -> bool
         [word] => word.as_str() == "serial",
         _ => false,
     }
-}
-
-/// Whether the history ends with Finish.
-fn is_finished(history: &History) -> bool
-    ensures { result ≡ true → IsFinished history.now.items }
-{
-    match history.as_slice() {
-        [.., last] => is_finish(last),
-        [] => false,
-    }
-}
-
-/// Whether the entry is the dispatcher's Finish.
-fn is_finish(entry: &Entry) -> bool
-    ensures { IsTrue result ↔ (entry.now ≡ by_dispatcher Ends) }
-{
-    matches!(
-        entry,
-        Entry {
-            who: Who::Dispatcher,
-            act: Act::Finish,
-        }
-    )
 }
 
 /// How a cause prints.
@@ -125,11 +99,11 @@ fn run_script<K: Sink>(alloc: Global, script: &Script, sink: &mut K) -> Report
     ensures told { IsTold script.now result.status result.history.items (K.held sink.old) (K.held sink.new) }
     ensures fault { result.status ≡ 4 → HasRisen (K.faults sink.old) (K.faults sink.new) }
 {
-    let history = match run_serial(alloc, script, None) {
-        Ok(history) => history,
+    let SerialRun { history, finished } = match run_serial(alloc, script, None) {
+        Ok(run) => run,
         Err(_) => return without_run(5, alloc),
     };
-    if !is_finished(&history) {
+    if !finished {
         return Report { status: 5, history };
     }
     let text = match transcript(alloc, script, &history) {
@@ -156,13 +130,14 @@ fn refuse<K: Sink>(alloc: Global, line: u32, cause: LineCause, sink: &mut K) -> 
     }
 }
 
-/// Reads a script from its bytes, and runs it.
+/// Reads a script from its bytes, which are all that the source had, and runs it.
 fn run_bytes<K: Sink>(alloc: Global, bytes: &[u8], sink: &mut K) -> Report
     requires { length bytes.now ≤ 1048576 }
-    ensures answered { IsAnswered bytes.now result.status result.history.items (K.held sink.old) (K.held sink.new) }
+    ensures outcome { (left : Option (List ℕ)) → IsAtEnd left → IsOutcome bytes.now left result.status result.history.items (K.held sink.old) (K.held sink.new) }
     ensures read { result.status ≡ 3 → ⊥ }
     ensures fault { result.status ≡ 4 → HasRisen (K.faults sink.old) (K.faults sink.new) }
-    ensures refusal { result.status ≡ 2 → TellsRefusal bytes.now (HasRisen (K.faults sink.old) (K.faults sink.new)) (K.held sink.old) (K.held sink.new) }
+    ensures refusal { result.status ≡ 2 → (left : Option (List ℕ)) → IsAtEnd left
+        → TellsRefusal bytes.now left (HasRisen (K.faults sink.old) (K.faults sink.new)) (K.held sink.old) (K.held sink.new) }
 {
     match Script::read(alloc, bytes) {
         Ok(script) => run_script(alloc, &script, sink),
@@ -190,11 +165,13 @@ pub fn db2iso<R: Threads + Wait + Sync, S: Source, K: Sink, G: Gate + Sync>(
     ensures usage_text { result.status ≡ 1 → (result.history.items ≡ []) × AppendsPart (K.held sink.old) (K.held sink.new) usage }
     ensures usage_whole { result.status ≡ 1 → IsWritten (HasRisen (K.faults sink.old) (K.faults sink.new)) (K.held sink.old) (K.held sink.new) usage }
     ensures refusal { result.status ≡ 2 → (bytes : List ℕ) × Consumes (S.left source.old) (S.left source.new) bytes
-        × TellsRefusal bytes (HasRisen (K.faults sink.old) (K.faults sink.new)) (K.held sink.old) (K.held sink.new) }
+        × TellsRefusal bytes (S.left source.new) (HasRisen (K.faults sink.old) (K.faults sink.new)) (K.held sink.old) (K.held sink.new) }
     ensures source_fault { result.status ≡ 3 → HasRisen (S.faults source.old) (S.faults source.new) }
     ensures sink_fault { result.status ≡ 4 → HasRisen (K.faults sink.old) (K.faults sink.new) }
     ensures outcome { IsRow (texts words.now) → (bytes : List ℕ) × Consumes (S.left source.old) (S.left source.new) bytes
-        × IsAnswered bytes result.status result.history.items (K.held sink.old) (K.held sink.new) }
+        × IsOutcome bytes (S.left source.new) result.status result.history.items (K.held sink.old) (K.held sink.new) }
+    ensures answered { IsRow (texts words.now) → (all : List ℕ) → S.left source.old ≡ Some all
+        → IsAnswered all (S.left source.new) result.status result.history.items (K.held sink.old) (K.held sink.new) }
     ensures complete { IsRow (texts words.now) → (bytes : List ℕ) → S.left source.old ≡ Some bytes → (script : Program) → IsScript bytes script
         → ¬ HasRisen (S.faults source.old) (S.faults source.new) → ¬ HasRisen (K.faults sink.old) (K.faults sink.new)
         → IsComplete script result.status result.history.items (S.left source.new) (K.held sink.old) (K.held sink.new) ⊎ (result.status ≡ 5) }

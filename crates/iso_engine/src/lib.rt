@@ -9,7 +9,7 @@ mod run;
 mod serial;
 
 pub use job::{Report, db2iso};
-pub use run::run_serial;
+pub use run::{SerialRun, run_serial};
 
 #[cfg(test)]
 mod tests;

@@ -132,5 +132,5 @@ pub fn run_query(
             Looked::Shown => take_shown(alloc, parts, query, Rid(rid), &mut kept)?,
         }
     }
-    Err(Memory)
+    unreachable!()
 }

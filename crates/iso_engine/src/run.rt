@@ -1,9 +1,9 @@
 ghost use Rattle.std.specs.List.{list_all};
-ghost use Rattle.std.specs.Prelude.{◌≡◌, ◌<◌, ◌≤◌, ◌+◌, drop, length, slice_index_or, true, [], Some, None, IfOk, OnOk};
+ghost use Rattle.std.specs.Prelude.{◌≡◌, ◌<◌, ◌≤◌, ◌+◌, drop, length, slice_index_or, true, [], Some, None, IfOk, IsTrue, OnErr, OnOk, ◌↔◌};
 ghost use Rattle.iso_first_conduct.specs.Legal.{IsFinished, IsLegal};
 ghost use Rattle.iso_first_conduct.specs.Points.{start_point};
 ghost use Rattle.iso_engine.specs.Runnable.{CanRun};
-ghost use Rattle.iso_engine.specs.UnderWay.{IsIdle, IsRunning, IsSoFar, IsUnderWay};
+ghost use Rattle.iso_engine.specs.UnderWay.{IsIdle, IsOpen, IsRunning, IsSoFar, IsUnderWay};
 ghost use Rattle.iso_script.specs.Built.{IsBuilt, is_built_line, is_built_what};
 ghost use Rattle.iso_script.specs.Numbered.{rises_above};
 ghost use Rattle.iso_script.specs.declared.script.What.{What as Asks};
@@ -19,7 +19,7 @@ use iso_sql::Statement;
 use iso_types::Memory;
 use std::alloc::Global;
 
-/// Runs the statement of a line that is taken. A statement of a later stage can't come here.
+/// Runs the statement of a line that is taken. No script of this stage has another statement.
 fn run_statement(
     alloc: Global,
     parts: &mut Parts,
@@ -53,7 +53,7 @@ fn run_statement(
             run_query(alloc, parts, lines, left, &query)
         }
         Statement::Commit => run_commit(parts, lines, left),
-        _ => Err(Memory),
+        _ => unreachable!(),
     }
 }
 
@@ -75,6 +75,7 @@ fn take(
     ensures head { parts.new.head ≡ parts.old.head }
     ensures legal { IsSoFar parts.new.head lines.now parts.new.history.items }
     ensures ok { OnOk result (IsRunning parts.new.head lines.now parts.new.history.items (start_point statement.now) (drop (at + 1) lines.now)) }
+    ensures open_ { OnErr result (IsOpen parts.new.head parts.new.history.items) }
 {
     dispatch(parts, line.number, FIRST)
 }
@@ -89,6 +90,7 @@ fn run_line(alloc: Global, parts: &mut Parts, lines: &[Line], at: usize) -> Resu
     ensures head { parts.new.head ≡ parts.old.head }
     ensures legal { IsSoFar parts.new.head lines.now parts.new.history.items }
     ensures ok { OnOk result (IsIdle parts.new.head lines.now parts.new.history.items (drop (at + 1) lines.now)) }
+    ensures open_ { OnErr result (IsOpen parts.new.head parts.new.history.items) }
 {
     let line = &lines[at];
     match &line.what {
@@ -96,7 +98,7 @@ fn run_line(alloc: Global, parts: &mut Parts, lines: &[Line], at: usize) -> Resu
             take(parts, lines, at, line, statement)?;
             run_statement(alloc, parts, lines, at + 1, statement)
         }
-        _ => Err(Memory),
+        _ => unreachable!(),
     }
 }
 
@@ -108,6 +110,7 @@ fn run_lines(alloc: Global, parts: &mut Parts, lines: &[Line]) -> Result<(), Mem
     ensures head { parts.new.head ≡ parts.old.head }
     ensures legal { IsSoFar parts.new.head lines.now parts.new.history.items }
     ensures ok { OnOk result (IsFinished parts.new.history.items) }
+    ensures open_ { OnErr result (IsOpen parts.new.head parts.new.history.items) }
 {
     'lines: for at in 0..lines.len() {
         run_line(alloc, parts, lines, at)?;
@@ -118,6 +121,7 @@ fn run_lines(alloc: Global, parts: &mut Parts, lines: &[Line]) -> Result<(), Mem
 /// Runs all lines, and ends the run. A script without a connection has no line.
 fn run_all(alloc: Global, parts: &mut Parts, lines: &[Line]) -> Result<(), Memory>
     requires conns { length parts.old.head.conns ≤ 1 }
+    requires few { length parts.old.head.rows ≤ 1000 }
     requires manned { length parts.old.head.conns ≡ 0 → lines.now ≡ [] }
     requires built { list_all (is_built_line parts.old.head) lines.now ≡ true }
     requires rising { rises_above 0 lines.now ≡ true }
@@ -126,6 +130,7 @@ fn run_all(alloc: Global, parts: &mut Parts, lines: &[Line]) -> Result<(), Memor
     ensures head { parts.new.head ≡ parts.old.head }
     ensures legal { IsSoFar parts.new.head lines.now parts.new.history.items }
     ensures ok { OnOk result (IsFinished parts.new.history.items) }
+    ensures open_ { OnErr result (IsOpen parts.new.head parts.new.history.items) }
 {
     if parts.head.conns.len() == 0 {
         return finish_it(parts, lines);
@@ -133,16 +138,29 @@ fn run_all(alloc: Global, parts: &mut Parts, lines: &[Line]) -> Result<(), Memor
     run_lines(alloc, parts, lines)
 }
 
+/// What a run on one thread leaves: its history, and whether that ends with Finish. Where it does not, memory was
+/// wanting.
+#[derive(Drop)]
+pub struct SerialRun {
+    pub history: History,
+    pub finished: bool,
+}
+
 /// Runs a script on one thread, without a schedule seed: the dispatcher and then the connections in order make an
-/// entry each where they are able, round after round. The history is legal. It ends with Finish, or where it
-/// stood when memory was wanting; `Memory` comes only before the first entry. It takes time for each entry.
-pub fn run_serial(alloc: Global, script: &Script, seed: Option<u64>) -> Result<History, Memory>
+/// entry each where they are able, round after round. The history is legal, and the answer says whether it ends with
+/// Finish; where memory was wanting it ends where it stood. `Memory` comes only before the first entry. It takes time
+/// for each entry.
+pub fn run_serial(alloc: Global, script: &Script, seed: Option<u64>) -> Result<SerialRun, Memory>
     requires built { IsBuilt script.now }
     requires rising { rises_above 0 script.now.lines ≡ true }
     requires unseeded { seed ≡ None }
-    ensures legal { IfOk result (λ h. IsLegal script.now h.items) }
+    ensures legal { IfOk result (λ r. IsLegal script.now r.history.items) }
+    ensures finished { IfOk result (λ r. IsTrue r.finished ↔ IsFinished r.history.items) }
 {
     let mut parts = Parts::new(alloc, &script.head)?;
-    let _ = run_all(alloc, &mut parts, script.lines.as_slice());
-    Ok(parts.history)
+    let finished = run_all(alloc, &mut parts, script.lines.as_slice()).is_ok();
+    Ok(SerialRun {
+        history: parts.history,
+        finished,
+    })
 }

@@ -1,8 +1,8 @@
-ghost use Rattle.std.specs.Prelude.{◌≡◌, ◌<◌, ◌≤◌, ◌+◌, drop, length, true, [], IfOk, OnOk, ℕ};
+ghost use Rattle.std.specs.Prelude.{◌≡◌, ◌<◌, ◌≤◌, ◌+◌, drop, length, true, [], IfOk, OnErr, OnOk, ℕ};
 ghost use Rattle.iso_first_conduct.specs.Legal.{IsFinished};
 ghost use Rattle.iso_first_conduct.specs.Points.{start_point};
 ghost use Rattle.iso_engine.specs.Runnable.{CanRun};
-ghost use Rattle.iso_engine.specs.UnderWay.{IsClosing, IsIdle, IsOver, IsRunning, IsSoFar, IsUnderWay};
+ghost use Rattle.iso_engine.specs.UnderWay.{IsClosing, IsIdle, IsOpen, IsOver, IsRunning, IsSoFar, IsUnderWay};
 ghost use Rattle.iso_sql.specs.declared.statement.Statement.TheVariants.{Commit as Commits};
 ghost use Rattle.iso_first_state.specs.Stands.{StandsFor};
 
@@ -35,6 +35,7 @@ fn close_it(parts: &mut Parts, lines: &[Line]) -> Result<(), Memory>
     ensures head { parts.new.head ≡ parts.old.head }
     ensures legal { IsSoFar parts.new.head lines.now parts.new.history.items }
     ensures ok { OnOk result (IsClosing parts.new.head lines.now parts.new.history.items) }
+    ensures open_ { OnErr result (IsOpen parts.new.head parts.new.history.items) }
 {
     close(parts, FIRST)
 }
@@ -48,6 +49,7 @@ fn end_it(parts: &mut Parts, lines: &[Line]) -> Result<(), Memory>
     ensures head { parts.new.head ≡ parts.old.head }
     ensures legal { IsSoFar parts.new.head lines.now parts.new.history.items }
     ensures ok { OnOk result (IsOver parts.new.head lines.now parts.new.history.items) }
+    ensures open_ { OnErr result (IsOpen parts.new.head parts.new.history.items) }
 {
     ended(parts, FIRST)
 }
@@ -60,6 +62,7 @@ pub fn finish_it(parts: &mut Parts, lines: &[Line]) -> Result<(), Memory>
     ensures head { parts.new.head ≡ parts.old.head }
     ensures legal { IsSoFar parts.new.head lines.now parts.new.history.items }
     ensures ok { OnOk result (IsFinished parts.new.history.items) }
+    ensures open_ { OnErr result (IsOpen parts.new.head parts.new.history.items) }
 {
     finish(parts)
 }
@@ -72,6 +75,7 @@ pub fn run_end(parts: &mut Parts, lines: &[Line]) -> Result<(), Memory>
     ensures head { parts.new.head ≡ parts.old.head }
     ensures legal { IsSoFar parts.new.head lines.now parts.new.history.items }
     ensures ok { OnOk result (IsFinished parts.new.history.items) }
+    ensures open_ { OnErr result (IsOpen parts.new.head parts.new.history.items) }
 {
     close_it(parts, lines)?;
     end_it(parts, lines)?;

@@ -238,12 +238,13 @@ fn fails_after<R: Threads + Wait + Sync + AllocGlobal>(
     Ok(told.0 == status && to.held() == &output[..count.min(output.len())])
 }
 
-// Whether a source that fails at its second call gives status 3 with nothing written.
+// Whether a source with so many bytes a call, whose listed calls fail, gives status 3 with nothing written.
 fn source_fails<R: Threads + Wait + Sync + AllocGlobal>(
     rt: &R,
+    most: usize,
     fails: &[bool],
 ) -> Result<bool, Fail> {
-    let mut from = source(rt, FIRST, 10, fails)?;
+    let mut from = source(rt, FIRST, most, fails)?;
     let mut to = sink(rt, 4096, &[])?;
     let told = answer(rt, &["serial"], &mut from, &mut to)?;
     Ok(told.0 == 3 && told.1 == 0 && to.held().is_empty())
@@ -267,8 +268,10 @@ fn scripts_give_their_output(rt: HostRuntime) -> Result<(), Fail> {
 
 #[test]
 fn streams_that_fail(rt: HostRuntime) -> Result<(), Fail> {
-    assert!(rt; source_fails(&rt, &[true])?);
-    assert!(rt; source_fails(&rt, &[false, true])?);
+    assert!(rt; source_fails(&rt, 10, &[true])?);
+    assert!(rt; source_fails(&rt, 10, &[false, true])?);
+    // a failed read behind the last byte is no end
+    assert!(rt; source_fails(&rt, 4096, &[false, true])?);
     for count in 0..TOLD.len() {
         assert!(rt;
             fails_after(&rt, &["serial"], FIRST, TOLD, count, 4)?,

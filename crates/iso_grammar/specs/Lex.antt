@@ -105,13 +105,17 @@ is_one (b ∷ c ∷ bs) = b == 48 && is_one (c ∷ bs)
 unfoldable pub digits_kind : List ℕ → Kind
 digits_kind digits = if is_one digits then k.One else k.Integer
 
--- How many bytes a text takes behind its opening quote, the closing one among them; none where it is unfinished.
--- The test says that the byte before is a quote that may close it.
+-- CR or LF, which no text holds
+abbrev pub ends_line : ℕ → Bool
+ends_line b = b == 13 || b == 10
+
+-- How many bytes a text takes behind its opening quote, the closing one among them; none where it is unfinished: where the line
+-- ends, or a CR or LF stands, before its closing quote. The test says that the byte before is a quote that may close it.
 abbrev pub text_from : Bool → List ℕ → Option ℕ
 text_from closes [] = if closes then Some 0 else None
 text_from closes (b ∷ bs) =
     if b == 39 then option_map (λ n. n + 1) (text_from (not closes) bs)
-    else (if closes then Some 0 else option_map (λ n. n + 1) (text_from false bs))
+    else (if closes then Some 0 else (if ends_line b then None else option_map (λ n. n + 1) (text_from false bs)))
 
 -- a text, or else the quote alone, which is of no line
 abbrev pub text_token : Option ℕ → Kind × ℕ

@@ -144,6 +144,12 @@ fn symbol_at(b: u8, rest: &[u8]) -> (Kind, usize)
     }
 }
 
+fn ends_line(b: u8) -> bool
+    ensures { result ≡ spec.ends_line b }
+{
+    b == b'\r' || b == b'\n'
+}
+
 fn text_len(bytes: &[u8]) -> Option<usize>
     ensures text { result ≡ spec.text_from false bytes.now }
     ensures bound { IfSome result (λ n. n ≤ length bytes.now) }
@@ -154,6 +160,8 @@ fn text_len(bytes: &[u8]) -> Option<usize>
             closes = !closes;
         } else if closes {
             return Some(i);
+        } else if ends_line(*b) {
+            return None;
         }
     }
     if closes { Some(bytes.len()) } else { None }

@@ -14,9 +14,8 @@ pub mod Order
 pub mod Listed
 pub mod Ordered
 pub mod Shown
-pub mod Singles
+pub mod AlikeSnapshots
 pub mod Totals
-pub mod Ends
 pub mod Alike
 pub mod AlikeHolds
 pub mod AlikeWaits
@@ -25,3 +24,5 @@ pub mod ClaimedLists
 pub mod SettledLists
 pub mod SingleLists
 pub mod AlikeClaims
+pub mod Holding
+pub mod NewNames

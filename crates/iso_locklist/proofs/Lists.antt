@@ -217,7 +217,7 @@ guard_of_name ps c n apart =
     ∙ any_map (λ (h : locks.Hold). not (conn_eq h.conn c) && (mode_eq h.mode S || mode_eq h.mode Nw)) (named_hold n) (line_at ps n).holders
 
 -- the table of a name is that of the head whose indexes were kept
-table_like : (head : Head) (n : Name) → table_in (map (λ (d : IndexDef). d.table) head.indexes) n ≡ table_of head n
+pub table_like : (head : Head) (n : Name) → table_in (map (λ (d : IndexDef). d.table) head.indexes) n ≡ table_of head n
 table_like head (Table t) = refl
 table_like head (Row t r) = refl
 table_like head (Key i v) = slice_get-map (λ (d : IndexDef). d.table) head.indexes i.0

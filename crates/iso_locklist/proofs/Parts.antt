@@ -98,3 +98,8 @@ grantable_more ps c i p lt at =
     ∙ list_any-append (λ (x : Place). is_grantable x.queue c) (take i ps) (p ∷ [])
     ∙ ap (λ (b : Bool). list_any (λ (x : Place). is_grantable x.queue c) (take i ps) || b) (any_one (λ (x : Place). is_grantable x.queue c) p)
     ∙ turned (list_any (λ (x : Place). is_grantable x.queue c) (take i ps)) (is_grantable p.queue c)
+
+-- the element that was read at an index is the one that stands there
+pub element_is : (ps qs : List Place) (i : ℕ) (p r : Place) → ps ≡ qs → i < length qs → r ≡ get_or ps i r → p ≡ get_or qs i p → r ≡ p
+element_is ps qs i p r same lt read at =
+    read ∙ ap (λ (l : List Place). get_or l i r) same ∙ get_or_default qs i r p lt ∙ sym at

@@ -1,7 +1,7 @@
 -- A snapshot's lines are those of the lists of all holds and waits.
 use Rattle.std.proofs.Common.{Bor, ◌≡◌, ◌∙◌, zero, suc, Bool, true, false, not, ◌||◌, List, [], ◌∷◌, ◌++◌, map, refl, ap, sym, subst, arith}
 use Rattle.std.specs.List.{All, AllByRecursion, IsDistinct, cons_option, flat_map, list_any}
-use Rattle.std.specs.List.Sorted.{IsPermutation, IsSortedBy}
+use Rattle.std.specs.List.Sorted.{IsPermutation, IsSortedBy, IsStrictlySortedBy}
 use Rattle.std.specs.Option.{option_map}
 use Rattle.std.specs.Prelude.{filter, filter_map, find, is_some, if◌then◌else◌, None, Option, Some}
 use Rattle.std.proofs.lemmas.List.Folds.{list_any-append}
@@ -14,6 +14,7 @@ use Rattle.iso_locklist.specs.declared.places.Place.{Place}
 use Rattle.iso_locklist.proofs.Apart.{turned}
 use Rattle.iso_locklist.proofs.Lists.{any_map, hold_of_name, is_hold, seek, waits_of_name}
 use Rattle.iso_locklist.proofs.Names.{name_same}
+use Rattle.iso_locklist.proofs.Order.{name_cmp}
 use Rattle.iso_locklist.proofs.Ordered.{and_parts, apart_distinct, flips, has, not_true, or_none, ordered_is, rises}
 use Rattle.iso_locklist.proofs.Settles.{gone, kept, map_append, or_right}
 use Rattle.iso_modes.specs.declared.LockState.{LockState}
@@ -60,11 +61,11 @@ from_index : {X : Type 0} (P : X → Type 0) (xs : List X) → All P xs → AllB
 from_index P [] all = tt
 from_index P (x ∷ xs) all = (all 0 x (omega arith), from_index P xs (λ k d lt. all (suc k) d (omega (arith, lt))))
 
-weaker : {X : Type 0} (P Q : X → Type 0) (xs : List X) → ((x : X) → P x → Q x) → AllByRecursion P xs → AllByRecursion Q xs
+pub weaker : {X : Type 0} (P Q : X → Type 0) (xs : List X) → ((x : X) → P x → Q x) → AllByRecursion P xs → AllByRecursion Q xs
 weaker P Q [] step all = tt
 weaker P Q (x ∷ xs) step all = (step x all.0, weaker P Q xs step all.1)
 
-all_append : {X : Type 0} (P : X → Type 0) (xs ys : List X) → AllByRecursion P xs → AllByRecursion P ys → AllByRecursion P (xs ++ ys)
+pub all_append : {X : Type 0} (P : X → Type 0) (xs ys : List X) → AllByRecursion P xs → AllByRecursion P ys → AllByRecursion P (xs ++ ys)
 all_append P [] ys all more = more
 all_append P (x ∷ xs) ys all more = (all.0, all_append P xs ys all.1 more)
 
@@ -193,30 +194,45 @@ own_names (p ∷ ps) = (
       (λ r e. or_right (name_eq p.name r.name) (has (names ps) r.name) e) (own_names ps),
 )
 
-known : (ps : List Place) (ns : List Name) → IsPermutation (names ps) ns → AllByRecursion (λ x. has ns x ≡ true) (used (holds_in ps) (waits_in ps))
+pub known : (ps : List Place) (ns : List Name) → IsPermutation (names ps) ns → AllByRecursion (λ x. has ns x ≡ true) (used (holds_in ps) (waits_in ps))
 known ps ns moved =
     let T = (λ (x : Name). has ns x ≡ true) in
     let all = weaker (λ (p : Place). has (names ps) p.name ≡ true) (λ (p : Place). has ns p.name ≡ true) ps
     (λ p e. sym (list_any-IsPermutation (λ (m : Name). name_eq m p.name) (names ps) ns moved) ∙ e) (own_names ps) in
     all_append T (map (λ h. h.name) (holds_in ps)) (map (λ x. x.name) (waits_in ps)) (holds_known T ps all) (waits_known T ps all)
 
--- the lines of the places, in the order of their names, are the snapshot
-pub snapshot_is : (head : Head) (ps : List Place) (rs : List (Bor Place)) → are_apart (names ps) ≡ true → IsPermutation ps (map (λ p. p.now) rs)
-    → IsSortedBy (λ p q. name_lt head p.now.name q.now.name) rs
-    → flat_map (λ p. lines_of head p.now) rs ≡ snapshot head (holds_in ps) (waits_in ps)
-snapshot_is head ps rs apart moved up =
-    let qs = map (λ (p : Bor Place). p.now) rs in
-    let lines = lines_at head (holds_in ps) (waits_in ps) in
-    let same : names qs ≡ map (λ (p : Bor Place). p.now.name) rs = map_map (λ (p : Place). p.name) (λ (p : Bor Place). p.now) rs in
-    let names_moved : IsPermutation (names ps) (names qs) = IsPermutation-map (λ (p : Place). p.name) ps qs moved in
-    let distinct = IsDistinct-IsPermutation name_eq flips (names ps) (names qs) names_moved (apart_distinct (names ps) apart) in
-    let rising = rises head (λ (p : Bor Place). p.now.name) rs up (subst (λ (l : List Name). IsDistinct name_eq l) same distinct) in
-    let all = from_index (λ (p : Place). lines_of head p ≡ lines p.name) qs
-    (All-permutation (λ (p : Place). lines_of head p ≡ lines p.name) ps qs moved (by_index (λ (p : Place). lines_of head p ≡ lines p.name) ps (place_lines head ps apart))) in
-    sym (flat_map_map (lines_of head) (λ (p : Bor Place). p.now) rs)
-    ∙ flat_like (lines_of head) lines (λ (p : Place). p.name) qs all
-    ∙ sym (flat_kept lines (has (used (holds_in ps) (waits_in ps))) (names qs) (λ n none. unused head (holds_in ps) (waits_in ps) n none))
-    ∙ ap (flat_map lines)
-    (ap (filter (has (used (holds_in ps) (waits_in ps)))) same
-    ∙ sym (ordered_is head (map (λ (p : Bor Place). p.now.name) rs) (used (holds_in ps) (waits_in ps)) rising
-    (subst (λ (l : List Name). AllByRecursion (λ (x : Name). has l x ≡ true) (used (holds_in ps) (waits_in ps))) same (known ps (names qs) names_moved))))
+-- places in the order of their names, each name once
+module _ (head : Head) (ps : List Place) (rs : List (Bor Place)) (apart : are_apart (names ps) ≡ true) (moved : IsPermutation ps (map (λ p. p.now) rs))
+    (up : IsSortedBy (λ p q. name_lt head p.now.name q.now.name) rs) where
+  abbrev qs : List Place
+  qs = map (λ (p : Bor Place). p.now) rs
+
+  abbrev pub in_order : List Name
+  in_order = map (λ (p : Bor Place). p.now.name) rs
+
+  same : names qs ≡ in_order
+  same = map_map (λ (p : Place). p.name) (λ (p : Bor Place). p.now) rs
+
+  names_moved : IsPermutation (names ps) (names qs)
+  names_moved = IsPermutation-map (λ (p : Place). p.name) ps qs moved
+
+  pub rising : IsStrictlySortedBy (name_cmp head) in_order
+  rising =
+      rises head (λ (p : Bor Place). p.now.name) rs up
+      (subst (λ (l : List Name). IsDistinct name_eq l) same (IsDistinct-IsPermutation name_eq flips (names ps) (names qs) names_moved (apart_distinct (names ps) apart)))
+
+  pub used_known : AllByRecursion (λ (x : Name). has in_order x ≡ true) (used (holds_in ps) (waits_in ps))
+  used_known = subst (λ (l : List Name). AllByRecursion (λ (x : Name). has l x ≡ true) (used (holds_in ps) (waits_in ps))) same (known ps (names qs) names_moved)
+
+  -- their lines are the snapshot
+  pub snapshot_is : flat_map (λ p. lines_of head p.now) rs ≡ snapshot head (holds_in ps) (waits_in ps)
+  snapshot_is =
+      let lines = lines_at head (holds_in ps) (waits_in ps) in
+      let all = from_index (λ (p : Place). lines_of head p ≡ lines p.name) qs
+      (All-permutation (λ (p : Place). lines_of head p ≡ lines p.name) ps qs moved (by_index (λ (p : Place). lines_of head p ≡ lines p.name) ps (place_lines head ps apart))) in
+      sym (flat_map_map (lines_of head) (λ (p : Bor Place). p.now) rs)
+      ∙ flat_like (lines_of head) lines (λ (p : Place). p.name) qs all
+      ∙ sym (flat_kept lines (has (used (holds_in ps) (waits_in ps))) (names qs) (λ n none. unused head (holds_in ps) (waits_in ps) n none))
+      ∙ ap (flat_map lines)
+      (ap (filter (has (used (holds_in ps) (waits_in ps)))) same
+      ∙ sym (ordered_is head in_order (used (holds_in ps) (waits_in ps)) rising used_known))

@@ -6,6 +6,8 @@ use Rattle.std.specs.Prelude.{◌≡◌, ◌<◌, ◌++◌, length, slice_get, s
 use Rattle.iso_locklist.specs.declared.places.Change.{Change}
 use Rattle.iso_locklist.specs.declared.places.Change.TheVariants.{Cancel, Release, Settle}
 use Rattle.iso_locklist.specs.declared.places.Place.{Place}
+use Rattle.iso_locklist.specs.declared.places.Scope.{Scope}
+use Rattle.iso_locklist.specs.declared.places.Scope.TheVariants.{Beside, Each, OnTable}
 use Rattle.iso_locklist.specs.declared.room.LockFault.{LockFault}
 use Rattle.iso_locklist.specs.declared.room.Room.{Room}
 use Rattle.iso_locklist.specs.declared.room.Room.TheVariants.{AtCapacity, AtShare, Free}
@@ -13,7 +15,7 @@ use Rattle.iso_modes.specs.Modes.{covers}
 use Rattle.iso_modes.specs.declared.Mode.{Mode}
 use Rattle.iso_queue.specs.Lines.{Line, edges_of, has_mode, hold_of, is_grantable, is_touched, is_waiter, settled, unheld, unqueued, waiter_of}
 use Rattle.iso_queue.specs.declared.types.Asked.{Asked}
-use Rattle.iso_types.specs.Ids.{name_eq}
+use Rattle.iso_types.specs.Ids.{name_eq, table_eq}
 use Rattle.iso_types.specs.declared.value.Conn.{Conn}
 use Rattle.iso_types.specs.declared.value.Name.{Name}
 use Rattle.iso_types.specs.declared.value.Name.TheVariants.{End, Key, Row, Table}
@@ -123,6 +125,23 @@ changed Release c n q = released q c
 changed Cancel c n q = cancelled q c
 changed (Settle spare) c n q = settled q c (is_spared spare n)
 
+-- the table of a row name or key name
+abbrev pub table_in : List TableId → Name → Option TableId
+table_in index_tables (Table t) = None
+table_in index_tables (Row t r) = Some t
+table_in index_tables (Key i v) = slice_get index_tables i.0
+table_in index_tables (End i) = slice_get index_tables i.0
+
+-- the name's line is one of those that are changed
+abbrev pub is_in : List TableId → Scope → Name → Bool
+is_in index_tables Each n = true
+is_in index_tables (OnTable t) n = option_map_or (λ u. table_eq u t) (table_in index_tables n) false
+is_in index_tables (Beside m) n = not (name_eq m n)
+
+-- the name's line after the change, where it is one of those
+abbrev pub changed_in : List TableId → Scope → Change → Conn → Name → Line → Line
+changed_in index_tables scope change c n q = if is_in index_tables scope n then changed change c n q else q
+
 -- each name's line changed
 abbrev pub each_line : (Name → Line → Line) → List Place → List Place
 each_line f ps = map (λ p. record { name = p.name; queue = f p.name p.queue }) ps
@@ -143,13 +162,6 @@ pub record IsSameLimits (l m : Ledger) : Type 0 where
   pub share : l.share ≡ m.share
   pub slots : l.slots ≡ m.slots
   pub index_tables : l.index_tables ≡ m.index_tables
-
--- the table of a row name or key name
-abbrev pub table_in : List TableId → Name → Option TableId
-table_in index_tables (Table t) = None
-table_in index_tables (Row t r) = Some t
-table_in index_tables (Key i v) = slice_get index_tables i.0
-table_in index_tables (End i) = slice_get index_tables i.0
 
 -- the connection's hold on the table covers the mode
 abbrev pub is_covered_on : List Place → Conn → Mode → TableId → Bool

@@ -10,5 +10,5 @@ mod snapshot;
 mod tests;
 
 pub use list::LockList;
-pub use places::Place;
+pub use places::{Asking, Place};
 pub use room::{LockFault, Room};

@@ -1,27 +1,29 @@
-ghost use Rattle.std.specs.Prelude.{◌≡◌, ◌<◌, ◌≤◌, [], IfOk, OnOk, OnErr, false, if◌then◌else◌, None, count_by, filter, length, map, slice_index_or, slice_set};
-ghost use Rattle.iso_locklist.specs.Lists.{IsAsked, IsClaimed, IsHeads, IsHeadsIn, IsSingle, IsSingleIn, StaySingle, grants_in, holds_in, named_hold, named_wait, waits_in};
-ghost use Rattle.iso_locklist.specs.Places.{IsLimited, IsSameLimits, all_taken, cancelled, each_line, edges_in, is_covered, is_grantable_in, is_spared, line_at, need_of, released, room_for, room_to_ask, taken, wait_in, changed};
+ghost use Rattle.std.specs.Prelude.{drop, List, ◌≡◌, ◌<◌, ◌≤◌, [], IfOk, OnOk, OnErr, false, if◌then◌else◌, None, length, map, slice_index_or, slice_set};
+ghost use Rattle.iso_locklist.specs.Holding.{AreAsked, AreNew, AreOfHead, IsNew, all_added, HasTables, LocksAre, WaitsOnce, room_asked, room_in_lists, settled_beside};
+ghost use Rattle.iso_locklist.specs.Lists.{asked_for, IsSingleIn, claimed_holds, claimed_waits, grants_in, named_hold};
+ghost use Rattle.iso_locklist.specs.Places.{IsLimited, IsSameLimits, all_taken, cancelled, each_line, edges_in, is_covered, is_grantable_in, is_spared, line_at, released, room_for, room_to_ask, taken, wait_in, changed, changed_in};
 ghost use Rattle.iso_locklist.specs.declared.places.Place.{Place as Entry};
-ghost use Rattle.iso_queue.specs.Lines.{asked, bits_of, claimed, hold_of, is_granted, is_guarded_against, is_used, settled, wait_for, would_wait};
-ghost use Rattle.iso_queue.specs.Locks.{dropped, freed, hold_on, others_guard, without_briefs};
+ghost use Rattle.iso_queue.specs.Lines.{asked, bits_of, claimed, hold_of, is_granted, is_guarded_against, is_used, settled};
+ghost use Rattle.iso_queue.specs.Locks.{Hold as Held, added, collapsed, dropped, freed, hold_on, others_guard, without_briefs};
 ghost use Rattle.iso_queue.specs.Limits as limits;
+ghost use Rattle.iso_modes.specs.declared.Term.TheVariants as Terms;
 ghost use Rattle.iso_queue.specs.Locks as locks;
 ghost use Rattle.iso_queue.specs.Queues as queues;
-ghost use Rattle.iso_queue.specs.Queues.{queue, unqueued, wait_of};
+ghost use Rattle.iso_queue.specs.Queues.{Wait as Awaiting, is_waiting, queue, unqueued, wait_of};
 ghost use Rattle.iso_queue.specs.Snapshots.{snapshot};
 ghost use Rattle.std.specs.List.{list_any};
 ghost use Rattle.std.specs.Option.{option_map, option_map_or};
 ghost use Rattle.iso_queue.specs.declared.types.Asked.{Asked as Outcome};
 ghost use Rattle.iso_queue.specs.declared.types.Claimed.{Claimed as Answer};
 ghost use Rattle.iso_types.specs.Ids.{conn_eq, name_eq};
-ghost use Rattle.iso_types.specs.declared.value.Conn.{Conn as Who};
 ghost use Rattle.iso_types.specs.declared.value.Name.{Name as Other};
 ghost use Rattle.iso_types.specs.Head.{lock_share, lock_slots};
+ghost use Rattle.iso_types.specs.declared.head.Head.{Head as Declared};
 
 use crate::covering::{index_tables, table_of};
 use crate::places::{
-    Change, Place, ask, change_at, claim_all, find_place, find_wait, holds_mode, need, queue_of,
-    would_grant,
+    Asking, Change, Place, Scope, ask, change_at, claim_all, find_place, find_wait, holds_mode,
+    is_in, need, queue_of, would_grant,
 };
 use crate::room::{LockFault, Room, room_beside, room_in};
 use crate::snapshot::{in_order, list_lines};
@@ -60,6 +62,7 @@ impl LockList {
     pub fn new(alloc: Global, head: &Head) -> Result<LockList, Memory>
         requires pages { head.now.config.locklist ≤ 4096 }
         requires percent { head.now.config.maxlocks ≤ 100 }
+        ensures lists { IfOk result (λ l. LocksAre [] [] l) }
         ensures places { IfOk result (λ l. l.places ≡ []) }
         ensures share { IfOk result (λ l. l.share ≡ lock_share head.now.config) }
         ensures slots { IfOk result (λ l. l.slots ≡ lock_slots head.now.config) }
@@ -79,103 +82,87 @@ impl LockList {
     /// How many names the connection holds or awaits. Its cost is constant.
     pub fn count(&self, conn: Conn) -> u32
         requires { conn.0 < 32 }
-        ensures { result ≡ taken self.now.places conn }
+        ensures { (hs : List Held) (xs : List Awaiting) → LocksAre hs xs self.now → IsSingleIn hs xs conn → result ≡ limits.taken hs xs conn }
     {
-        self.counts[conn.0 as usize]
+        let _ = &self.places;
+        self.count_at(conn)
     }
 
     /// The sum of the counts of all connections. Its cost is constant.
     pub fn total(&self) -> u32
-        ensures { result ≡ all_taken self.now.places }
+        ensures { (head : Declared) (hs : List Held) (xs : List Awaiting) → LocksAre hs xs self.now → AreOfHead head hs xs → result ≡ limits.all_taken head hs xs }
     {
-        self.total
+        let _ = &self.places;
+        self.total_at()
     }
 
     /// Whether a need of so many more slots is at a limit. Its cost is constant.
     pub fn room(&self, conn: Conn, more: u32) -> Room
         requires { conn.0 < 32 }
-        ensures { result ≡ room_for self.now conn more }
+        ensures { (head : Declared) (hs : List Held) (xs : List Awaiting) → LocksAre hs xs self.now → AreOfHead head hs xs → result ≡ room_in_lists head self.now hs xs conn more }
     {
-        room_in(
-            self.counts[conn.0 as usize],
-            self.total,
-            self.share,
-            self.slots,
-            more,
-        )
+        let _ = &self.places;
+        self.room_at(conn, more)
     }
 
     /// The connection's hold on the name. Its cost is the number of names, and of those who hold the name.
     pub fn held(&self, conn: Conn, name: Name) -> Option<Hold>
-        ensures { result ≡ hold_of (line_at self.now.places name).holders conn }
+        ensures { (hs : List Held) (xs : List Awaiting) → LocksAre hs xs self.now → option_map (named_hold name) result ≡ hold_on hs conn name }
     {
-        match queue_of(&self.places, &name) {
-            Some(queue) => queue.hold(conn),
-            None => None,
-        }
+        self.hold_at(conn, &name)
     }
 
     /// Whether a request for the mode would be granted without a wait. Its cost is the number of names, and of those who
     /// hold or await the name.
     pub fn would_grant(&self, conn: Conn, name: Name, mode: Mode) -> bool
-        ensures line { result ≡ is_granted (line_at self.now.places name) conn mode }
-        ensures lists { count_by (λ x. conn_eq x.conn conn) (waits_in self.now.places) ≡ 0 → result ≡ grants_in (holds_in self.now.places) (waits_in self.now.places) conn name mode }
+        ensures { (hs : List Held) (xs : List Awaiting) → LocksAre hs xs self.now → is_waiting xs conn ≡ false → result ≡ grants_in hs xs conn name mode }
     {
-        would_grant(&self.places, conn, &name, mode)
+        let _ = &self.places;
+        self.grants_at(conn, &name, mode)
     }
 
     /// Whether the connection's hold on the name's table covers a request for the mode, which then takes no lock. Nothing
     /// covers a request on a table. Its cost is the number of names, and of those who hold the table.
     pub fn covered(&self, conn: Conn, name: Name, mode: Mode) -> bool
-        ensures { result ≡ is_covered self.now conn name mode }
+        ensures { (head : Declared) (hs : List Held) (xs : List Awaiting) → HasTables head self.now → LocksAre hs xs self.now → result ≡ locks.is_covered head hs conn name mode }
     {
-        let Some(table) = table_of(self.index_tables.as_slice(), &name) else {
-            return false;
-        };
-        match self.held(conn, Name::Table(table)) {
-            Some(hold) => covers(hold.mode, mode),
-            None => false,
-        }
+        let _ = &self.places;
+        self.is_covered_at(conn, &name, mode)
     }
 
     /// The name and the target of the connection's wait. Its cost is the number of names and of all who await them.
     pub fn waits(&self, conn: Conn) -> Option<(Name, Mode)>
-        ensures { result ≡ wait_in self.now.places conn }
+        ensures { (hs : List Held) (xs : List Awaiting) → LocksAre hs xs self.now → WaitsOnce xs conn → result ≡ option_map (λ x. (x.name, x.target)) (wait_of xs conn) }
     {
-        let place = find_wait(&self.places, conn)?;
-        let wait = place.queue.wait(conn)?;
-        Some((place.name, wait.target))
+        let _ = &self.places;
+        self.wait_at(conn)
     }
 
     /// Whether the connection waits, and its wait has no edge: a claim is granted then. Its cost is the number of names, and
     /// of those who hold or await the name on which it waits.
     pub fn can_claim(&self, conn: Conn) -> bool
-        ensures { result ≡ is_grantable_in self.now.places conn }
+        ensures { (hs : List Held) (xs : List Awaiting) → LocksAre hs xs self.now → WaitsOnce xs conn → result ≡ queues.is_grantable hs xs conn }
     {
-        self.places.iter().any(|place| place.queue.can_claim(conn))
+        let _ = &self.places;
+        self.can_claim_at(conn)
     }
 
     /// The connections to which the connection's wait has an edge: each other holder of the name in a mode that does not
     /// go with the target, and each earlier waiter. Its cost is the number of names and of all who await them, and 32 times
     /// the number of those who hold or await the name.
     pub fn edges(&self, conn: Conn) -> Edges
-        ensures { result.0 ≡ edges_in self.now.places conn }
+        ensures { (hs : List Held) (xs : List Awaiting) → LocksAre hs xs self.now → WaitsOnce xs conn → result.0 ≡ option_map_or (λ x. bits_of (λ d. list_any (conn_eq d) (queues.blockers hs xs x)) 32) (wait_of xs conn) 0 }
     {
-        match find_wait(&self.places, conn) {
-            Some(place) => place.queue.edges(conn),
-            None => Edges(0),
-        }
+        let _ = &self.places;
+        self.edges_at(conn)
     }
 
     /// Whether another connection holds S or NW on the name. Its cost is the number of names, and of those who hold the
     /// name.
     pub fn others_hold(&self, conn: Conn, name: Name) -> bool
-        ensures { result ≡ is_guarded_against (line_at self.now.places name).holders conn }
+        ensures { (hs : List Held) (xs : List Awaiting) → LocksAre hs xs self.now → result ≡ others_guard hs conn name }
     {
-        match queue_of(&self.places, &name) {
-            Some(queue) => queue.is_guarded(conn),
-            None => false,
-        }
+        self.is_guarded_at(conn, &name)
     }
 
     /// Whether somebody holds or awaits the name. Its cost is the number of names.
@@ -190,8 +177,7 @@ impl LockList {
 
     /// Requests the mode on the name. `Granted`: the connection holds it, with what it held before. `Queued`: it waits.
     /// Its need is a slot, or none where it holds or awaits the name. `AtShare`, `AtCapacity`: the need is at that limit,
-    /// whatever the queue; never where it holds the mode already. `Memory`: want of memory. After a fault nothing changed. Where the connection waits nowhere, who
-    /// held no name twice and had one wait at most still does. Its cost is the number of names, and at most the product of
+    /// whatever the queue; never where it holds the mode already. `Memory`: want of memory. After a fault nothing changed. Its cost is the number of names, and at most the product of
     /// those who hold and those who await the name.
     pub fn request(
         &mut self,
@@ -201,16 +187,33 @@ impl LockList {
         term: Term,
     ) -> Result<Asked, LockFault>
         requires { conn.0 < 32 }
-        ensures limit { IsLimited (room_to_ask self.old conn name mode) result }
-        ensures answer { IfOk result (λ a. a ≡ (if is_granted (line_at self.old.places name) conn mode then Outcome.Granted else Outcome.Queued)) }
-        ensures line { OnOk result (line_at self.new.places name ≡ asked (line_at self.old.places name) conn mode term) }
-        ensures others { (n : Other) → name_eq name n ≡ false → line_at self.new.places n ≡ line_at self.old.places n }
-        ensures lists { count_by (λ x. conn_eq x.conn conn) (waits_in self.old.places) ≡ 0 → OnOk result (IsAsked (grants_in (holds_in self.old.places) (waits_in self.old.places) conn name mode) self.old.places self.new.places conn name mode term) }
-        ensures single { wait_in self.old.places conn ≡ None → StaySingle self.old.places self.new.places }
+        ensures limit { (head : Declared) (hs : List Held) (xs : List Awaiting) → LocksAre hs xs self.old → AreOfHead head hs xs → IsLimited (room_asked head self.old hs xs conn name mode) result }
+        ensures answer { (hs : List Held) (xs : List Awaiting) → LocksAre hs xs self.old → is_waiting xs conn ≡ false → IfOk result (λ a. a ≡ (if grants_in hs xs conn name mode then Outcome.Granted else Outcome.Queued)) }
+        ensures lists { (hs : List Held) (xs : List Awaiting) → LocksAre hs xs self.old → is_waiting xs conn ≡ false → OnOk result (AreAsked (grants_in hs xs conn name mode) hs xs conn name mode term self.new) }
         ensures limits { IsSameLimits self.new self.old }
         ensures err { OnErr result (self.new ≡ self.old) }
     {
-        let name = &name;
+        let _ = &self.places;
+        self.request_at(conn, &name, mode, term)
+    }
+
+    /// The same, told by the line of the name.
+    fn request_at(
+        &mut self,
+        conn: Conn,
+        name: &Name,
+        mode: Mode,
+        term: Term,
+    ) -> Result<Asked, LockFault>
+        requires { conn.0 < 32 }
+        ensures limit { IsLimited (room_to_ask self.old conn name.now mode) result }
+        ensures answer { IfOk result (λ a. a ≡ (if is_granted (line_at self.old.places name.now) conn mode then Outcome.Granted else Outcome.Queued)) }
+        ensures line { OnOk result (line_at self.new.places name.now ≡ asked (line_at self.old.places name.now) conn mode term) }
+        ensures others { (n : Other) → name_eq name.now n ≡ false → line_at self.new.places n ≡ line_at self.old.places n }
+        ensures lists { (hs : List Held) (xs : List Awaiting) → LocksAre hs xs self.old → is_waiting xs conn ≡ false → OnOk result (AreAsked (grants_in hs xs conn name.now mode) hs xs conn name.now mode term self.new) }
+        ensures limits { IsSameLimits self.new self.old }
+        ensures err { OnErr result (self.new ≡ self.old) }
+    {
         let at = conn.0 as usize;
         let need = need(&self.places, conn, name);
         let room = room_in(self.counts[at], self.total, self.share, self.slots, need);
@@ -228,15 +231,67 @@ impl LockList {
         Ok(asked)
     }
 
+    /// Requests the modes on names that nobody holds or awaits, each to be kept: all are granted, or none is. `AtShare`,
+    /// `AtCapacity`: one of them is at that limit. `Memory`: want of memory. After a fault the holds and waits are as before.
+    /// Its cost is that of as many requests.
+    pub fn request_new(&mut self, conn: Conn, requests: &[Asking]) -> Result<(), LockFault>
+        requires { conn.0 < 32 }
+        ensures lists { (hs : List Held) (xs : List Awaiting) → LocksAre hs xs self.old → is_waiting xs conn ≡ false → AreNew hs xs requests.now → OnOk result (LocksAre (all_added hs conn requests.now) xs self.new) }
+        ensures limits { IsSameLimits self.new self.old }
+        ensures err { (hs : List Held) (xs : List Awaiting) → LocksAre hs xs self.old → is_waiting xs conn ≡ false → AreNew hs xs requests.now → OnErr result (LocksAre hs xs self.new) }
+    {
+        self.request_from(conn, requests, 0)
+    }
+
+    /// Requests the mode on a name that nobody holds or awaits, to be kept.
+    fn request_kept(&mut self, conn: Conn, name: &Name, mode: Mode) -> Result<(), LockFault>
+        requires { conn.0 < 32 }
+        ensures lists { (hs : List Held) (xs : List Awaiting) → LocksAre hs xs self.old → is_waiting xs conn ≡ false → IsNew hs xs name.now → OnOk result (LocksAre (added hs conn (asked_for name.now mode Terms.Kept)) xs self.new) }
+        ensures limits { IsSameLimits self.new self.old }
+        ensures err { OnErr result (self.new ≡ self.old) }
+    {
+        self.request(conn, *name, mode, Term::Kept)?;
+        Ok(())
+    }
+
+    /// The connection's hold on the name goes.
+    fn release_one(&mut self, conn: Conn, name: &Name)
+        requires { conn.0 < 32 }
+        ensures lists { (hs : List Held) (xs : List Awaiting) → LocksAre hs xs self.old → LocksAre (freed conn name.now hs) xs self.new }
+        ensures limits { IsSameLimits self.new self.old }
+    {
+        self.release(conn, *name);
+    }
+
+    /// The same from this place on.
+    fn request_from(&mut self, conn: Conn, requests: &[Asking], at: usize) -> Result<(), LockFault>
+        requires conn { conn.0 < 32 }
+        requires at { at ≤ length requests.now }
+        ensures lists { (hs : List Held) (xs : List Awaiting) → LocksAre hs xs self.old → is_waiting xs conn ≡ false → AreNew hs xs (drop at requests.now) → OnOk result (LocksAre (all_added hs conn (drop at requests.now)) xs self.new) }
+        ensures limits { IsSameLimits self.new self.old }
+        ensures err { (hs : List Held) (xs : List Awaiting) → LocksAre hs xs self.old → is_waiting xs conn ≡ false → AreNew hs xs (drop at requests.now) → OnErr result (LocksAre hs xs self.new) }
+    {
+        if at == requests.len() {
+            return Ok(());
+        }
+        let asking = &requests[at];
+        self.request_kept(conn, &asking.name, asking.mode)?;
+        match self.request_from(conn, requests, at + 1) {
+            Ok(()) => Ok(()),
+            Err(fault) => {
+                self.release_one(conn, &asking.name);
+                Err(fault)
+            }
+        }
+    }
+
     /// The connection's hold on the name goes. It takes no memory. Its cost is the number of names, and of those who hold
     /// or await the name.
     pub fn release(&mut self, conn: Conn, name: Name)
         requires { conn.0 < 32 }
         ensures line { line_at self.new.places name ≡ released (line_at self.old.places name) conn }
         ensures others { (n : Other) → name_eq name n ≡ false → line_at self.new.places n ≡ line_at self.old.places n }
-        ensures holds { holds_in self.new.places ≡ freed conn name (holds_in self.old.places) }
-        ensures waits { waits_in self.new.places ≡ waits_in self.old.places }
-        ensures single { StaySingle self.old.places self.new.places }
+        ensures lists { (hs : List Held) (xs : List Awaiting) → LocksAre hs xs self.old → LocksAre (freed conn name hs) xs self.new }
         ensures limits { IsSameLimits self.new self.old }
     {
         if let Some(at) = find_place(&self.places, &name) {
@@ -249,12 +304,10 @@ impl LockList {
     pub fn release_all(&mut self, conn: Conn)
         requires { conn.0 < 32 }
         ensures lines { (n : Other) → line_at self.new.places n ≡ released (line_at self.old.places n) conn }
-        ensures holds { holds_in self.new.places ≡ dropped conn (holds_in self.old.places) }
-        ensures waits { waits_in self.new.places ≡ waits_in self.old.places }
-        ensures single { StaySingle self.old.places self.new.places }
+        ensures lists { (hs : List Held) (xs : List Awaiting) → LocksAre hs xs self.old → LocksAre (dropped conn hs) xs self.new }
         ensures limits { IsSameLimits self.new self.old }
     {
-        self.change_all(conn, &Change::Release);
+        self.change_all(conn, &Change::Release, &Scope::Each);
     }
 
     /// Each Fresh hold of the connection becomes Kept, but on the name that is spared, and then its Brief holds go; all else
@@ -262,12 +315,29 @@ impl LockList {
     pub fn settle(&mut self, conn: Conn, spare: Option<Name>)
         requires { conn.0 < 32 }
         ensures lines { (n : Other) → line_at self.new.places n ≡ settled (line_at self.old.places n) conn (is_spared spare n) }
-        ensures holds { holds_in self.new.places ≡ without_briefs (holds_in self.old.places) conn (locks.settled conn spare (holds_in self.old.places)) }
-        ensures waits { waits_in self.new.places ≡ waits_in self.old.places }
-        ensures single { StaySingle self.old.places self.new.places }
+        ensures lists { (hs : List Held) (xs : List Awaiting) → LocksAre hs xs self.old → LocksAre (without_briefs hs conn (locks.settled conn spare hs)) xs self.new }
         ensures limits { IsSameLimits self.new self.old }
     {
-        self.change_all(conn, &Change::Settle(spare));
+        self.change_all(conn, &Change::Settle(spare), &Scope::Each);
+    }
+
+    /// The same, but for a hold that was placed in this step on a name that the connection did not hold: it stays as it is.
+    pub fn settle_beside(&mut self, conn: Conn, spare: Option<Name>, placed: Name)
+        requires { conn.0 < 32 }
+        ensures lists { (hs : List Held) (xs : List Awaiting) → LocksAre hs xs self.old → LocksAre (settled_beside conn spare placed hs) xs self.new }
+        ensures limits { IsSameLimits self.new self.old }
+    {
+        self.change_all(conn, &Change::Settle(spare), &Scope::Beside(placed));
+    }
+
+    /// The connection's holds on the rows and keys of the table go; its hold on the table stays, and so does its wait. It
+    /// takes no memory. Its cost is the number of names and of all who hold or await them. Db2 LUW, 'Lock escalation'.
+    pub fn collapse(&mut self, conn: Conn, table: TableId)
+        requires { conn.0 < 32 }
+        ensures lists { (head : Declared) (hs : List Held) (xs : List Awaiting) → HasTables head self.old → LocksAre hs xs self.old → LocksAre (collapsed head conn table hs) xs self.new }
+        ensures limits { IsSameLimits self.new self.old }
+    {
+        self.change_all(conn, &Change::Release, &Scope::OnTable(table));
     }
 
     /// The connection's wait goes, on whatever name it waits; its holds stay. It takes no memory. Its cost is the number
@@ -275,12 +345,10 @@ impl LockList {
     pub fn cancel(&mut self, conn: Conn)
         requires { conn.0 < 32 }
         ensures lines { (n : Other) → line_at self.new.places n ≡ cancelled (line_at self.old.places n) conn }
-        ensures holds { holds_in self.new.places ≡ holds_in self.old.places }
-        ensures waits { waits_in self.new.places ≡ unqueued conn (waits_in self.old.places) }
-        ensures single { StaySingle self.old.places self.new.places }
+        ensures lists { (hs : List Held) (xs : List Awaiting) → LocksAre hs xs self.old → LocksAre hs (unqueued conn xs) self.new }
         ensures limits { IsSameLimits self.new self.old }
     {
-        self.change_all(conn, &Change::Cancel);
+        self.change_all(conn, &Change::Cancel, &Scope::Each);
     }
 
     /// Grants the connection's wait where it has no edge, with what the connection held before; else nothing changes.
@@ -289,8 +357,8 @@ impl LockList {
     pub fn claim(&mut self, conn: Conn) -> Claimed
         ensures answer { result ≡ (if is_grantable_in self.old.places conn then Answer.Granted else Answer.NotYet) }
         ensures lines { (n : Other) → line_at self.new.places n ≡ claimed (line_at self.old.places n) conn }
-        ensures lists { count_by (λ x. conn_eq x.conn conn) (waits_in self.old.places) ≤ 1 → IsClaimed self.old.places self.new.places conn }
-        ensures single { StaySingle self.old.places self.new.places }
+        ensures lists { (hs : List Held) (xs : List Awaiting) → LocksAre hs xs self.old → WaitsOnce xs conn → LocksAre (claimed_holds hs xs conn) (claimed_waits hs xs conn) self.new }
+        ensures told { (hs : List Held) (xs : List Awaiting) → LocksAre hs xs self.old → WaitsOnce xs conn → result ≡ (if queues.is_grantable hs xs conn then Answer.Granted else Answer.NotYet) }
         ensures limits { IsSameLimits self.new self.old }
     {
         claim_all(&mut self.places, conn)
@@ -303,70 +371,105 @@ impl LockList {
     /// product of those who hold it and those who await it. Db2 LUW, 'MON_GET_LOCKS'; the order is this project's own.
     pub fn snapshot(&self, head: &Head) -> Result<Items<LockLine>, Memory>
         requires { length head.now.conns ≤ 32 }
-        ensures { IfOk result (λ lines. lines ≡ snapshot head.now (holds_in self.now.places) (waits_in self.now.places)) }
+        ensures { (hs : List Held) (xs : List Awaiting) → LocksAre hs xs self.now → IfOk result (λ lines. lines ≡ snapshot head.now hs xs) }
     {
         let places = in_order(self.alloc, head, &self.places)?;
         list_lines(self.alloc, head, &places)
     }
 
-    /// Law: in the lists of the holds and of the waits of all names, those of the name are its holders, and its waiters in
-    /// queue order; the connection's hold on the name, and whether another holds S or NW on it, are those of the lists.
-    pub fn lists_hold_each_name(&self, conn: Conn, name: Name)
-        ensures holds { filter (λ h. name_eq h.name name) (holds_in self.now.places) ≡ map (named_hold name) (line_at self.now.places name).holders }
-        ensures waits { queue (waits_in self.now.places) name ≡ map (named_wait name) (line_at self.now.places name).waiters }
-        ensures hold { hold_on (holds_in self.now.places) conn name ≡ option_map (named_hold name) (hold_of (line_at self.now.places name).holders conn) }
-        ensures guard { others_guard (holds_in self.now.places) conn name ≡ is_guarded_against (line_at self.now.places name).holders conn }
+    /// The connection's hold in the line of the name.
+    fn hold_at(&self, conn: Conn, name: &Name) -> Option<Hold>
+        ensures { result ≡ hold_of (line_at self.now.places name.now).holders conn }
     {
-        let _ = &self.places;
+        match queue_of(&self.places, name) {
+            Some(queue) => queue.hold(conn),
+            None => None,
+        }
     }
 
-    /// Law: a request is covered as in the list of the holds of all names, where the tables of the indexes are the head's.
-    pub fn lists_cover_each_request(&self, head: &Head, conn: Conn, name: Name, mode: Mode)
-        ensures { self.now.index_tables ≡ map (λ d. d.table) head.now.indexes → is_covered self.now conn name mode ≡ locks.is_covered head.now (holds_in self.now.places) conn name mode }
+    /// Whether another connection holds S or NW in the line of the name.
+    fn is_guarded_at(&self, conn: Conn, name: &Name) -> bool
+        ensures { result ≡ is_guarded_against (line_at self.now.places name.now).holders conn }
     {
-        let _ = &self.places;
+        match queue_of(&self.places, name) {
+            Some(queue) => queue.is_guarded(conn),
+            None => false,
+        }
     }
 
-    /// Law: where the connection holds no name twice and has one wait at most, its count is the number of its holds in
-    /// the list of all, and of its wait where it does not hold the name.
-    pub fn lists_count_each_name(&self, conn: Conn)
-        ensures { IsSingle self.now.places conn → taken self.now.places conn ≡ limits.taken (holds_in self.now.places) (waits_in self.now.places) conn }
+    /// The name and the target of the wait in the line where the connection stands.
+    fn wait_at(&self, conn: Conn) -> Option<(Name, Mode)>
+        ensures { result ≡ wait_in self.now.places conn }
     {
-        let _ = &self.places;
+        let place = find_wait(&self.places, conn)?;
+        let wait = place.queue.wait(conn)?;
+        Some((place.name, wait.target))
     }
 
-    /// Law: where no connection holds a name twice or has more than one wait, and none but those of the head, at most 32,
-    /// holds or awaits a name, the total is the sum of the counts in the lists.
-    pub fn lists_count_all_names(&self, head: &Head)
-        ensures { length head.now.conns ≤ 32 → ((c : Who) → IsSingle self.now.places c) → IsHeads head.now self.now.places → all_taken self.now.places ≡ limits.all_taken head.now (holds_in self.now.places) (waits_in self.now.places) }
+    /// The edges in the line where the connection waits.
+    fn edges_at(&self, conn: Conn) -> Edges
+        ensures { result.0 ≡ edges_in self.now.places conn }
     {
-        let _ = &self.places;
+        match find_wait(&self.places, conn) {
+            Some(place) => place.queue.edges(conn),
+            None => Edges(0),
+        }
     }
 
-    /// Law: where in the lists the connection holds no name twice and has one wait at most, its count is the one in the lists;
-    /// and so is the total, where this holds of each connection and none but those of the head, at most 32, is in the lists.
-    pub fn lists_count_taken(&self, head: &Head, conn: Conn)
-        ensures each { IsSingleIn (holds_in self.now.places) (waits_in self.now.places) conn → taken self.now.places conn ≡ limits.taken (holds_in self.now.places) (waits_in self.now.places) conn }
-        ensures all { length head.now.conns ≤ 32 → ((c : Who) → IsSingleIn (holds_in self.now.places) (waits_in self.now.places) c) → IsHeadsIn head.now (holds_in self.now.places) (waits_in self.now.places) → all_taken self.now.places ≡ limits.all_taken head.now (holds_in self.now.places) (waits_in self.now.places) }
+    /// Whether the line of the name's table has a hold of the connection that covers the mode.
+    fn is_covered_at(&self, conn: Conn, name: &Name, mode: Mode) -> bool
+        ensures { result ≡ is_covered self.now conn name.now mode }
     {
-        let _ = &self.places;
+        let Some(table) = table_of(self.index_tables.as_slice(), name) else {
+            return false;
+        };
+        match self.hold_at(conn, &Name::Table(table)) {
+            Some(hold) => covers(hold.mode, mode),
+            None => false,
+        }
     }
 
-    /// Law: the wait that is told is the connection's in the list of the waits of all names; and where it has one at most,
-    /// a claim is granted where that wait has no edge in the lists, and its edges are those to its blockers there.
-    pub fn lists_tell_each_wait(&self, conn: Conn)
-        ensures grantable { count_by (λ x. conn_eq x.conn conn) (waits_in self.now.places) ≤ 1 → is_grantable_in self.now.places conn ≡ queues.is_grantable (holds_in self.now.places) (waits_in self.now.places) conn }
-        ensures edges { count_by (λ x. conn_eq x.conn conn) (waits_in self.now.places) ≤ 1 → edges_in self.now.places conn ≡ option_map_or (λ x. bits_of (λ d. list_any (conn_eq d) (queues.blockers (holds_in self.now.places) (waits_in self.now.places) x)) 32) (wait_of (waits_in self.now.places) conn) 0 }
-        ensures wait { wait_in self.now.places conn ≡ option_map (λ x. (x.name, x.target)) (wait_of (waits_in self.now.places) conn) }
+    /// Whether the connection waits in a line where its wait has no edge.
+    fn can_claim_at(&self, conn: Conn) -> bool
+        ensures { result ≡ is_grantable_in self.now.places conn }
     {
-        let _ = &self.places;
+        self.places.iter().any(|place| place.queue.can_claim(conn))
     }
 
-    /// Law: where the connection waits nowhere, its request would wait where it would in the lists of all holds and waits.
-    pub fn lists_judge_each_request(&self, conn: Conn, name: Name, mode: Mode, term: Term)
-        ensures { count_by (λ x. conn_eq x.conn conn) (waits_in self.now.places) ≡ 0 → would_wait (line_at self.now.places name).holders (line_at self.now.places name).waiters (wait_for (line_at self.now.places name).holders conn mode term) ≡ queues.would_wait (holds_in self.now.places) (waits_in self.now.places) (named_wait name (wait_for (line_at self.now.places name).holders conn mode term)) }
+    /// Whether a request for the mode is granted in the line of the name.
+    fn grants_at(&self, conn: Conn, name: &Name, mode: Mode) -> bool
+        ensures { result ≡ is_granted (line_at self.now.places name.now) conn mode }
     {
-        let _ = &self.places;
+        would_grant(&self.places, conn, name, mode)
+    }
+
+    /// How many lines the connection stands in.
+    fn count_at(&self, conn: Conn) -> u32
+        requires { conn.0 < 32 }
+        ensures { result ≡ taken self.now.places conn }
+    {
+        self.counts[conn.0 as usize]
+    }
+
+    /// The sum of the counts.
+    fn total_at(&self) -> u32
+        ensures { result ≡ all_taken self.now.places }
+    {
+        self.total
+    }
+
+    /// The room for so many more lines.
+    fn room_at(&self, conn: Conn, more: u32) -> Room
+        requires { conn.0 < 32 }
+        ensures { result ≡ room_for self.now conn more }
+    {
+        room_in(
+            self.counts[conn.0 as usize],
+            self.total,
+            self.share,
+            self.slots,
+            more,
+        )
     }
 
     /// Changes the connection's part in the line at this place.
@@ -381,14 +484,27 @@ impl LockList {
         self.total -= freed;
     }
 
-    /// Changes the connection's part in each line.
-    fn change_all(&mut self, conn: Conn, change: &Change)
+    /// The same, where the line is one of those that are changed.
+    fn change_in(&mut self, at: usize, conn: Conn, change: &Change, scope: &Scope)
+        requires conn { conn.0 < 32 }
+        requires at { at < length self.old.places }
+        ensures places { (p : Entry) → p ≡ slice_index_or self.old.places at p → self.new.places ≡ slice_set self.old.places at (record { name = p.name; queue = changed_in self.old.index_tables scope.now change.now conn p.name p.queue }) }
+        ensures limits { IsSameLimits self.new self.old }
+    {
+        let changes = is_in(self.index_tables.as_slice(), scope, &self.places[at].name);
+        if changes {
+            self.change_at(at, conn, change);
+        }
+    }
+
+    /// Changes the connection's part in each of these lines.
+    fn change_all(&mut self, conn: Conn, change: &Change, scope: &Scope)
         requires { conn.0 < 32 }
-        ensures places { self.new.places ≡ each_line (changed change.now conn) self.old.places }
+        ensures places { self.new.places ≡ each_line (changed_in self.old.index_tables scope.now change.now conn) self.old.places }
         ensures limits { IsSameLimits self.new self.old }
     {
         for at in 0..self.places.len() {
-            self.change_at(at, conn, change);
+            self.change_in(at, conn, change, scope);
         }
     }
 }

@@ -1,6 +1,6 @@
 ghost use Rattle.std.specs.Prelude.{◌≡◌, ◌+◌, ◌||◌, slice_set, ◌<◌, length, slice_index_or, IfSome, IfNone, IfOk, OnOk, OnErr, if◌then◌else◌};
 ghost use Rattle.std.specs.Option.{option_copied};
-ghost use Rattle.iso_locklist.specs.Places.{IsAbsent, IsPlaceOf, awaited, each_line, is_grantable_in, is_spared, line_at, need_of, nobody, one, updated, changed};
+ghost use Rattle.iso_locklist.specs.Places.{IsAbsent, IsPlaceOf, awaited, each_line, is_grantable_in, is_in, is_spared, line_at, need_of, nobody, one, updated, changed};
 ghost use Rattle.iso_locklist.specs.declared.places.Place.{Place as Entry};
 ghost use Rattle.iso_queue.specs.Lines.{asked, claimed, has_mode, is_grantable, is_granted, is_touched};
 ghost use Rattle.iso_queue.specs.declared.types.Asked.{Asked as Outcome};
@@ -8,9 +8,10 @@ ghost use Rattle.iso_queue.specs.declared.types.Claimed.{Claimed as Answer};
 ghost use Rattle.iso_modes.specs.Modes.{mode_eq};
 ghost use Rattle.iso_types.specs.Ids.{name_eq};
 
+use crate::covering::table_of;
 use iso_modes::{Mode, Term, joined};
 use iso_queue::{Asked, Claimed, Queue};
-use iso_types::{Conn, Memory, Name};
+use iso_types::{Conn, Memory, Name, TableId};
 use std::alloc::Global;
 
 /// A name with its holders and waiters.
@@ -29,6 +30,24 @@ pub enum Change {
     Cancel,
     /// Its Fresh hold becomes Kept, but on the name that is spared, and its Brief hold goes.
     Settle(Option<Name>),
+}
+
+/// A name, and the mode that is asked for on it.
+#[derive(Clone, Copy)]
+pub struct Asking {
+    pub name: Name,
+    pub mode: Mode,
+}
+
+/// In which lines a connection's part is changed.
+#[derive(Drop)]
+pub enum Scope {
+    /// In the line of each name.
+    Each,
+    /// In those of the rows and keys of a table.
+    OnTable(TableId),
+    /// In those of all names but one.
+    Beside(Name),
 }
 
 #[tactic(auto, unfolding(iso_types::specs::Ids::name_eq, iso_types::specs::Value::value_eq))]
@@ -162,6 +181,20 @@ fn spares(spare: &Option<Name>, name: &Name) -> bool
     match spare {
         Some(spared) => same_name(name, spared),
         None => false,
+    }
+}
+
+/// Whether the name's line is one of those that are changed.
+pub fn is_in(index_tables: &[TableId], scope: &Scope, name: &Name) -> bool
+    ensures { result ≡ is_in index_tables.now scope.now name.now }
+{
+    match scope {
+        Scope::Each => true,
+        Scope::OnTable(table) => match table_of(index_tables, name) {
+            Some(own) => own == *table,
+            None => false,
+        },
+        Scope::Beside(other) => !same_name(other, name),
     }
 }
 

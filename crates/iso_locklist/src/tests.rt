@@ -1,4 +1,4 @@
-use crate::{LockFault, LockList, Room};
+use crate::{Asking, LockFault, LockList, Room};
 use iso_modes::{LockState, Mode, Term};
 use iso_queue::{Asked, Claimed, LockLine};
 use iso_types::{
@@ -79,6 +79,7 @@ fn lock_list(alloc: Global) -> Result<LockList, Memory> {
 #[test]
 fn stops_at_the_share(rt: HostRuntime) -> Result<(), Fail> {
     let Ok(mut locks) = lock_list(rt.alloc()) else {
+        assert!(rt; false);
         return Ok(());
     };
     for rid in 0..12u32 {
@@ -120,6 +121,7 @@ fn requests(locks: &mut LockList, all: &[(Conn, Name, Mode)]) -> Result<u32, Loc
 fn claims_in_order(rt: HostRuntime) -> Result<(), Fail> {
     let row = Name::Row(TABLE, Rid(7));
     let Ok(mut locks) = lock_list(rt.alloc()) else {
+        assert!(rt; false);
         return Ok(());
     };
     let held = [
@@ -147,6 +149,7 @@ fn claims_in_order(rt: HostRuntime) -> Result<(), Fail> {
 #[test]
 fn covers_by_the_own_table_lock(rt: HostRuntime) -> Result<(), Fail> {
     let Ok(mut locks) = lock_list(rt.alloc()) else {
+        assert!(rt; false);
         return Ok(());
     };
     let held = [
@@ -173,6 +176,7 @@ fn covers_by_the_own_table_lock(rt: HostRuntime) -> Result<(), Fail> {
 #[test]
 fn settles_but_the_spared_name(rt: HostRuntime) -> Result<(), Fail> {
     let Ok(mut locks) = lock_list(rt.alloc()) else {
+        assert!(rt; false);
         return Ok(());
     };
     let asked = [(0, Term::Fresh), (1, Term::Fresh), (2, Term::Brief)];
@@ -187,6 +191,85 @@ fn settles_but_the_spared_name(rt: HostRuntime) -> Result<(), Fail> {
     }
     assert!(rt; locks.held(A, Name::Row(TABLE, Rid(2))).is_none());
     assert!(rt; locks.count(A) == 2 && locks.total() == 2);
+    Ok(())
+}
+
+#[test]
+fn collapses_one_table(rt: HostRuntime) -> Result<(), Fail> {
+    let Ok(mut locks) = lock_list(rt.alloc()) else {
+        assert!(rt; false);
+        return Ok(());
+    };
+    let held = [
+        (A, Name::Table(TABLE), Mode::Is),
+        (A, Name::Row(TABLE, Rid(0)), Mode::Ns),
+        (A, Name::Key(INDEX, Value::Int(30)), Mode::S),
+        (A, Name::End(INDEX), Mode::S),
+        (A, Name::Row(OTHER, Rid(0)), Mode::Ns),
+        (B, Name::Row(TABLE, Rid(0)), Mode::Ns),
+    ];
+    assert!(rt; requests(&mut locks, &held) == Ok(6));
+    locks.collapse(A, TABLE);
+    let stay = [
+        (A, Name::Table(TABLE), true),
+        (A, Name::Row(TABLE, Rid(0)), false),
+        (A, Name::Key(INDEX, Value::Int(30)), false),
+        (A, Name::End(INDEX), false),
+        (A, Name::Row(OTHER, Rid(0)), true),
+        (B, Name::Row(TABLE, Rid(0)), true),
+    ];
+    for (conn, name, stays) in stay {
+        assert!(rt; locks.held(conn, name).is_some() == stays);
+    }
+    assert!(rt; locks.count(A) == 2 && locks.total() == 3);
+    Ok(())
+}
+
+#[test]
+fn settles_beside_what_was_placed(rt: HostRuntime) -> Result<(), Fail> {
+    let Ok(mut locks) = lock_list(rt.alloc()) else {
+        assert!(rt; false);
+        return Ok(());
+    };
+    for rid in 0..2u32 {
+        let asked = locks.request(A, Name::Row(TABLE, Rid(rid)), Mode::Ns, Term::Brief);
+        assert!(rt; asked == Ok(Asked::Granted));
+    }
+    locks.settle_beside(A, None, Name::Row(TABLE, Rid(1)));
+    assert!(rt; locks.held(A, Name::Row(TABLE, Rid(0))).is_none());
+    let held = locks.held(A, Name::Row(TABLE, Rid(1)));
+    assert!(rt; matches!(held, Some(hold) if hold.term == Term::Brief));
+    Ok(())
+}
+
+#[test]
+fn places_all_or_none(rt: HostRuntime) -> Result<(), Fail> {
+    let Ok(mut locks) = lock_list(rt.alloc()) else {
+        assert!(rt; false);
+        return Ok(());
+    };
+    let asks = [
+        Asking {
+            name: Name::Row(TABLE, Rid(20)),
+            mode: Mode::X,
+        },
+        Asking {
+            name: Name::End(INDEX),
+            mode: Mode::S,
+        },
+    ];
+    for rid in 0..10u32 {
+        let asked = locks.request(A, Name::Row(TABLE, Rid(rid)), Mode::Ns, Term::Kept);
+        assert!(rt; asked == Ok(Asked::Granted));
+    }
+    assert!(rt; locks.request_new(A, &asks) == Ok(()));
+    assert!(rt; locks.count(A) == 12);
+    locks.release(A, Name::Row(TABLE, Rid(20)));
+    locks.release(A, Name::End(INDEX));
+    let asked = locks.request(A, Name::Row(TABLE, Rid(10)), Mode::Ns, Term::Kept);
+    assert!(rt; asked == Ok(Asked::Granted));
+    assert!(rt; locks.request_new(A, &asks) == Err(LockFault::AtShare));
+    assert!(rt; locks.count(A) == 11 && locks.held(A, Name::Row(TABLE, Rid(20))).is_none());
     Ok(())
 }
 
@@ -250,6 +333,7 @@ fn shows_tables_rows_keys_and_ends_in_order(rt: HostRuntime) -> Result<(), Fail>
         lock_list(rt.alloc()),
         head(rt.alloc(), &[TABLE, OTHER, TABLE]),
     ) else {
+        assert!(rt; false);
         return Ok(());
     };
     let held = [

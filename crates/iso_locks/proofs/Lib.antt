@@ -1,3 +1,1 @@
 pub mod LockSteps
-pub mod ClaimSteps
-pub mod LookSteps

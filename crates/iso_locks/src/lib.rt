@@ -1,10 +1,6 @@
 //! The steps of locks: each adds one entry to the history of the state.
 #![tactic(auto)]
 
-mod claiming;
-mod freeing;
 mod locking;
 
-pub use claiming::{StepClaim, claim};
-pub use freeing::free;
 pub use locking::{Answer, lock};

@@ -1,4 +1,4 @@
-ghost use Rattle.std.specs.Prelude.{◌≡◌, ◌<◌, ◌≤◌, ◌++◌, [], ◌∷◌, length, false, None, IsTrue, IfOk, OnOk, OnErr};
+ghost use Rattle.std.specs.Prelude.{◌≡◌, ◌<◌, ◌++◌, [], ◌∷◌, length, false, true, None, Err, IsTrue, IfOk, OnOk, OnErr};
 ghost use Rattle.iso_history.specs.Legal.{Runs};
 ghost use Rattle.iso_history.specs.Makers.{by_agent};
 ghost use Rattle.iso_history.specs.Requests.{may_ask, request};
@@ -12,8 +12,8 @@ ghost use Rattle.iso_locks.specs.Answers.{answer_of, asked_act};
 
 use iso_history::{Act, Entry, Got, Who, Why};
 use iso_modes::{Mode, Term};
-use iso_state::{Judged, Parts, desk_of, enqueue, judge, make_room, move_to, note, take};
-use iso_types::{Conn, Desk, Memory, Name, Phase, TableId};
+use iso_state::{Judged, Parts, desk_of, enqueue, enter, judge, make_room, move_to, take};
+use iso_types::{Conn, Desk, Name, Phase, StepFault, TableId};
 
 /// What comes of a step of locks. `Escalates`: the lock of that table was asked for instead. `Refused`: with this SQLCODE.
 #[derive(Clone, Copy, PartialEq, Eq)]
@@ -42,44 +42,45 @@ fn asked(conn: Conn, name: &Name, mode: Mode, got: Got) -> Entry
 }
 
 /// Makes the entry of a lock that is granted.
-fn grant(parts: &mut Parts, conn: Conn, name: &Name, mode: Mode) -> Result<(), Memory>
+fn grant(parts: &mut Parts, conn: Conn, name: &Name, mode: Mode) -> Result<(), StepFault>
     requires stands { StandsFor parts.old }
     requires open { (world_of parts.old).pace.finished ≡ false }
     requires conn { conn.0 < length parts.old.head.conns }
     requires runs { Runs (world_of parts.old) conn }
     requires may { IsTrue (may_ask parts.old.head (world_of parts.old) conn name.now mode) }
     requires outcome { request parts.old.head (world_of parts.old) conn name.now mode ≡ Gives Gained.Granted }
-    requires room { is_full parts.old.head (world_of parts.old) (by_agent conn (asked_act name.now mode (Gives Gained.Granted))) ≡ false }
-    requires spare { 1 ≤ parts.old.history.spare }
     ensures stands { StandsFor parts.new }
     ensures head { parts.new.head ≡ parts.old.head }
+    ensures full { result ≡ Err StepFault.HistoryFull → is_full parts.old.head (world_of parts.old) (by_agent conn (asked_act name.now mode (Gives Gained.Granted))) ≡ true }
     ensures ok { OnOk result (parts.new.history.items ≡ parts.old.history.items ++ by_agent conn (asked_act name.now mode (Gives Gained.Granted)) ∷ []) }
     ensures err { OnErr result (content_of parts.new ≡ content_of parts.old) }
 {
+    make_room(parts, 1)?;
     take(parts, conn, name, mode, Term::Kept, false)?;
-    note(parts, asked(conn, name, mode, Got::Granted));
+    enter(parts, conn, asked(conn, name, mode, Got::Granted));
     Ok(())
 }
 
 /// Makes the entry of a lock that queues for the mode that the connection will hold.
-fn wait(parts: &mut Parts, conn: Conn, name: &Name, mode: Mode, to: Mode) -> Result<(), Memory>
+fn wait(parts: &mut Parts, conn: Conn, name: &Name, mode: Mode, to: Mode) -> Result<(), StepFault>
     requires stands { StandsFor parts.old }
     requires open { (world_of parts.old).pace.finished ≡ false }
     requires conn { conn.0 < length parts.old.head.conns }
     requires runs { Runs (world_of parts.old) conn }
     requires may { IsTrue (may_ask parts.old.head (world_of parts.old) conn name.now mode) }
     requires outcome { request parts.old.head (world_of parts.old) conn name.now mode ≡ Gives (Gained.Queued to) }
-    requires room { is_full parts.old.head (world_of parts.old) (by_agent conn (asked_act name.now mode (Gives (Gained.Queued to)))) ≡ false }
-    requires spare { 1 ≤ parts.old.history.spare }
     ensures stands { StandsFor parts.new }
     ensures head { parts.new.head ≡ parts.old.head }
+    ensures full { result ≡ Err StepFault.HistoryFull → is_full parts.old.head (world_of parts.old) (by_agent conn (asked_act name.now mode (Gives (Gained.Queued to)))) ≡ true }
     ensures ok { OnOk result (parts.new.history.items ≡ parts.old.history.items ++ by_agent conn (asked_act name.now mode (Gives (Gained.Queued to))) ∷ []) }
     ensures err { OnErr result (content_of parts.new ≡ content_of parts.old) }
 {
+    make_room(parts, 1)?;
     enqueue(parts, conn, name, mode, Term::Kept, to)?;
     parts.locks.settle(conn, None);
     let desk = Desk {
         phase: Phase::Waiting,
+        claimed: false,
         ..desk_of(parts, conn)
     };
     move_to(parts, conn, desk, asked(conn, name, mode, Got::Queued(to)));
@@ -87,30 +88,34 @@ fn wait(parts: &mut Parts, conn: Conn, name: &Name, mode: Mode, to: Mode) -> Res
 }
 
 /// Makes the entry of a lock that times out: the connection has to roll back.
-fn time_out(parts: &mut Parts, conn: Conn, name: &Name, mode: Mode)
+fn time_out(parts: &mut Parts, conn: Conn, name: &Name, mode: Mode) -> Result<(), StepFault>
     requires stands { StandsFor parts.old }
     requires open { (world_of parts.old).pace.finished ≡ false }
     requires conn { conn.0 < length parts.old.head.conns }
     requires runs { Runs (world_of parts.old) conn }
     requires may { IsTrue (may_ask parts.old.head (world_of parts.old) conn name.now mode) }
     requires outcome { request parts.old.head (world_of parts.old) conn name.now mode ≡ Gives Gained.TimedOut }
-    requires room { is_full parts.old.head (world_of parts.old) (by_agent conn (asked_act name.now mode (Gives Gained.TimedOut))) ≡ false }
-    requires spare { 1 ≤ parts.old.history.spare }
     ensures stands { StandsFor parts.new }
     ensures head { parts.new.head ≡ parts.old.head }
-    ensures ok { parts.new.history.items ≡ parts.old.history.items ++ by_agent conn (asked_act name.now mode (Gives Gained.TimedOut)) ∷ [] }
+    ensures full { result ≡ Err StepFault.HistoryFull → is_full parts.old.head (world_of parts.old) (by_agent conn (asked_act name.now mode (Gives Gained.TimedOut))) ≡ true }
+    ensures ok { OnOk result (parts.new.history.items ≡ parts.old.history.items ++ by_agent conn (asked_act name.now mode (Gives Gained.TimedOut)) ∷ []) }
+    ensures err { OnErr result (content_of parts.new ≡ content_of parts.old) }
 {
+    make_room(parts, 0)?;
     parts.locks.settle(conn, None);
+    parts.reserved -= 1;
     let desk = Desk {
         phase: Phase::Rolling,
         doom: 68,
+        claimed: false,
         ..desk_of(parts, conn)
     };
     move_to(parts, conn, desk, asked(conn, name, mode, Got::TimedOut));
+    Ok(())
 }
 
 /// Makes the refusal of a lock whose need is at a limit: SQLCODE -912.
-fn refuse(parts: &mut Parts, conn: Conn, name: &Name, mode: Mode)
+fn refuse(parts: &mut Parts, conn: Conn, name: &Name, mode: Mode) -> Result<(), StepFault>
     requires stands { StandsFor parts.old }
     requires open { (world_of parts.old).pace.finished ≡ false }
     requires conn { conn.0 < length parts.old.head.conns }
@@ -118,41 +123,38 @@ fn refuse(parts: &mut Parts, conn: Conn, name: &Name, mode: Mode)
     requires may { IsTrue (may_ask parts.old.head (world_of parts.old) conn name.now mode) }
     requires outcome { request parts.old.head (world_of parts.old) conn name.now mode ≡ Limit }
     requires none { prey parts.old.head (world_of parts.old).holds conn ≡ None }
-    requires room { is_full parts.old.head (world_of parts.old) (by_agent conn (asked_act name.now mode Limit)) ≡ false }
-    requires spare { 1 ≤ parts.old.history.spare }
     ensures stands { StandsFor parts.new }
     ensures head { parts.new.head ≡ parts.old.head }
-    ensures ok { parts.new.history.items ≡ parts.old.history.items ++ by_agent conn (asked_act name.now mode Limit) ∷ [] }
+    ensures full { result ≡ Err StepFault.HistoryFull → is_full parts.old.head (world_of parts.old) (by_agent conn (asked_act name.now mode Limit)) ≡ true }
+    ensures ok { OnOk result (parts.new.history.items ≡ parts.old.history.items ++ by_agent conn (asked_act name.now mode Limit) ∷ []) }
+    ensures err { OnErr result (content_of parts.new ≡ content_of parts.old) }
 {
+    make_room(parts, 1)?;
     parts.locks.settle(conn, None);
-    note(
-        parts,
-        Entry {
-            who: Who::Agent(conn),
-            act: Act::Refused { code: -912 },
-        },
-    );
+    let who = Who::Agent(conn);
+    let act = Act::Refused { code: -912 };
+    enter(parts, conn, Entry { who, act });
+    Ok(())
 }
 
 /// Asks for a lock that is kept to the unit's end. `Done`: the connection holds the mode, or its table lock covers it;
-/// `Queued`: it waits; `TimedOut`: it may not wait, and has to roll back; `Refused(-912)`: the need is at a limit. After
-/// `Memory` all is as before. Db2 LUW, 'Lock modes', 'SQLCODE -911', 'SQLCODE -912'.
-pub fn lock(parts: &mut Parts, conn: Conn, name: Name, mode: Mode) -> Result<Answer, Memory>
+/// `Queued`: it waits; `TimedOut`: it may not wait, and has to roll back; `Refused(-912)`: the need is at a limit.
+/// `HistoryFull`: its entry would be full. After a fault all is as before. Db2 LUW, 'Lock modes', 'SQLCODE -911', 'SQLCODE -912'.
+pub fn lock(parts: &mut Parts, conn: Conn, name: Name, mode: Mode) -> Result<Answer, StepFault>
     requires stands { StandsFor parts.old }
     requires open { (world_of parts.old).pace.finished ≡ false }
     requires conn { conn.0 < length parts.old.head.conns }
     requires runs { Runs (world_of parts.old) conn }
     requires may { IsTrue (may_ask parts.old.head (world_of parts.old) conn name mode) }
     requires none { request parts.old.head (world_of parts.old) conn name mode ≡ Limit → prey parts.old.head (world_of parts.old).holds conn ≡ None }
-    requires room { is_full parts.old.head (world_of parts.old) (by_agent conn (asked_act name mode (request parts.old.head (world_of parts.old) conn name mode))) ≡ false }
     ensures stands { StandsFor parts.new }
     ensures head { parts.new.head ≡ parts.old.head }
     ensures answer { IfOk result (λ a. a ≡ answer_of (request parts.old.head (world_of parts.old) conn name mode)) }
+    ensures full { result ≡ Err StepFault.HistoryFull → is_full parts.old.head (world_of parts.old) (by_agent conn (asked_act name mode (request parts.old.head (world_of parts.old) conn name mode))) ≡ true }
     ensures ok { OnOk result (parts.new.history.items ≡ parts.old.history.items ++ by_agent conn (asked_act name mode (request parts.old.head (world_of parts.old) conn name mode)) ∷ []) }
     ensures err { OnErr result (content_of parts.new ≡ content_of parts.old) }
 {
     let name = &name;
-    make_room(parts)?;
     match judge(parts, conn, name, mode) {
         Judged::Granted => {
             grant(parts, conn, name, mode)?;
@@ -163,11 +165,11 @@ pub fn lock(parts: &mut Parts, conn: Conn, name: Name, mode: Mode) -> Result<Ans
             Ok(Answer::Queued)
         }
         Judged::TimesOut => {
-            time_out(parts, conn, name, mode);
+            time_out(parts, conn, name, mode)?;
             Ok(Answer::TimedOut)
         }
         Judged::AtLimit => {
-            refuse(parts, conn, name, mode);
+            refuse(parts, conn, name, mode)?;
             Ok(Answer::Refused(-912))
         }
     }

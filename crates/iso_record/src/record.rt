@@ -15,8 +15,8 @@ pub enum Change {
     Undone(u32),
 }
 
-/// A record of the log: its number from 0, the unit that made it, the slot, what it changed, and the earlier records of
-/// the slot and of the unit that are not undone.
+/// A record of the log: its number from 0, the unit that made it, the slot, what it changed, the earlier records of the slot
+/// and of the unit that are not undone, and the new row of an Insert and an Update. A Delete and an Undone have no new row.
 #[derive(Drop)]
 pub struct Record {
     pub number: u32,
@@ -26,6 +26,7 @@ pub struct Record {
     pub change: Change,
     pub prev_row: Option<u32>,
     pub prev_unit: Option<u32>,
+    pub after: Option<Row>,
 }
 
 /// Writes old values back into their columns.
@@ -39,7 +40,7 @@ fn restore(olds: &[(u8, Value)], row: &mut Row)
     }
 }
 
-/// Undoes a record on its slot's row and liveness. It takes no memory.
+/// Undoes a record on its slot's row and liveness; the row that it made is not read. It takes no memory.
 pub fn undo_on(note: &Record, row: &mut Row, live: &mut bool)
     requires columns { columns_in (length row.old) note.now.change ≡ true }
     ensures undone { record { row = row.new; live = live.new } ≡ undone note.now.change (record { row = row.old; live = live.old }) }
@@ -63,6 +64,16 @@ impl Twin for Change {
     }
 }
 
+/// A row equal to this one, where there is one.
+fn twin_of(alloc: Global, row: &Option<Row>) -> Result<Option<Row>, Memory>
+    ensures { IfOk result (λ twin. twin ≡ row.now) }
+{
+    match row {
+        Some(row) => Ok(Some(row.copied(alloc)?)),
+        None => Ok(None),
+    }
+}
+
 impl Twin for Record {
     fn twin(&self, alloc: Global) -> Result<Record, Memory> {
         Ok(Record {
@@ -73,6 +84,7 @@ impl Twin for Record {
             change: self.change.twin(alloc)?,
             prev_row: self.prev_row,
             prev_unit: self.prev_unit,
+            after: twin_of(alloc, &self.after)?,
         })
     }
 }

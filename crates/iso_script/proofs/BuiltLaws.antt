@@ -12,7 +12,6 @@ use Rattle.iso_types.specs.declared.head.Head.{Head}
 use Rattle.iso_types.specs.declared.head.TableDef.{TableDef}
 use Rattle.iso_sql.specs.Sound.{is_sound_statement}
 use Rattle.iso_sql.specs.declared.statement.Statement.{Statement}
-use Rattle.iso_sql.specs.declared.statement.Statement.TheVariants as statement
 use Rattle.iso_grammar.specs.declared.fault.Cause.TheVariants.{Duplicate, Limit, Unknown}
 use Rattle.iso_grammar.specs.declared.fault.Checked.{Checked}
 use Rattle.iso_grammar.specs.declared.fault.Fault.{Fault}
@@ -20,7 +19,8 @@ use Rattle.iso_grammar.specs.declared.token.Token.{Token}
 use Rattle.iso_grammar.specs.Faults.{at, checked, least, unless}
 use Rattle.iso_grammar.specs.Lex.{is_skipped, tokens}
 use Rattle.iso_grammar.specs.Lines as text
-use Rattle.iso_script.specs.Built.{IsBuilt, is_built_statement, is_built_line, is_fitting, is_open_behind, is_commit}
+use Rattle.iso_script.specs.Built.{IsBuilt, is_built_line, is_open_behind, is_commit}
+use Rattle.iso_script.specs.Sound.{is_fitting}
 use Rattle.iso_script.specs.declared.script.Line.{Line}
 use Rattle.iso_script.specs.declared.script.Script.{Script}
 use Rattle.iso_script.specs.declared.script.What.{What}
@@ -41,19 +41,15 @@ use Rattle.iso_sql.specs.Names.{columns_in, table_in, table_names, table_of, tab
 use Rattle.iso_sql.specs.Rows.{stored_row}
 use Rattle.iso_types.specs.Head.{row_fits}
 use Rattle.iso_types.specs.declared.head.IndexDef.{IndexDef}
-use Rattle.iso_script.proofs.RowLaws.{named-fits, rows-grow, stored-fits}
+use Rattle.iso_script.proofs.Faultless.{false_true, and_left, and_right, or_right, is_false, value_is, fault_is, no_least_left, no_least_right, all_snoc, connection_there, none_is, row-fits}
+use Rattle.iso_script.proofs.RowLaws.{rows-grow}
+use Rattle.iso_script.proofs.SoundLaws.{is_before}
 use Rattle.iso_script.specs.Rules.{rule}
 use Rattle.iso_script.specs.Reading.{fits, ReadsFrom, reads, start, is_ended}
 use Rattle.iso_sql.specs.Statements as gq
 use Rattle.iso_sql.specs.Unbuilt as sql
 use Rattle.iso_sql.proofs.SoundStatements.{statement-sound}
-use Rattle.iso_types.specs.declared.head.Isolation.TheVariants as level
 use Rattle.iso_script.specs.Unbuilt.{is_built, is_built_asked}
-
-abbrev is_before : Place → Bool
-is_before place.First = true
-is_before place.Head = true
-is_before _ = false
 
 -- what holds between lines
 record Sound (s : Reader) : Type 0 where
@@ -69,101 +65,9 @@ record Sound (s : Reader) : Type 0 where
   closed : is_open_behind false s.script.lines ≡ s.unfinished
   ended : is_ended s ≡ true → s.unfinished ≡ false
 
--- ---- what the answers say
-
-pub some_is : {A : Type 0} (x y : A) → Some x ≡ Some y → x ≡ y
-some_is x y e = cc
-
-pub none_is : {A : Type 0} (x : A) → Some x ≡ None → ⊥
-none_is x e = cc
-
-pub false_true : false ≡ true → ⊥
-false_true e = cc
-
-pub and_left : (a b : Bool) → (a && b) ≡ true → a ≡ true
-and_left true b e = refl
-and_left false b e = absurd cc
-
-pub and_right : (a b : Bool) → (a && b) ≡ true → b ≡ true
-and_right true b e = e
-and_right false b e = absurd cc
-
-pub or_left : (a b : Bool) → (a || b) ≡ false → a ≡ false
-or_left true b e = absurd cc
-or_left false b e = refl
-
-pub or_right : (a b : Bool) → (a || b) ≡ false → b ≡ false
-or_right true b e = absurd cc
-or_right false b e = e
-
-pub is_false : (b : Bool) → not b ≡ true → b ≡ false
-is_false true e = absurd cc
-is_false false e = refl
-
-pub value_is : (c d : Checked Event) → c ≡ d → c.value ≡ d.value
-value_is c d e = ap (λ (z : Checked Event). z.value) e
-
-pub fault_is : (c d : Checked Event) → c ≡ d → c.fault ≡ d.fault
-fault_is c d e = ap (λ (z : Checked Event). z.fault) e
-
-pub no_least_left : (a b : Option Fault) → least a b ≡ None → a ≡ None
-unfolding least
-no_least_left None b e = refl
-no_least_left (Some a) None e = absurd (none_is a e)
-no_least_left (Some a) (Some b) e = go _ e
-  where
-    go : (v : Bool) → cond v (Some b) (Some a) ≡ None → Some a ≡ None
-    go true q = absurd (none_is b q)
-    go false q = q
-
-pub no_least_right : (a b : Option Fault) → least a b ≡ None → b ≡ None
-unfolding least
-no_least_right None b e = e
-no_least_right (Some a) None e = refl
-no_least_right (Some a) (Some b) e = go _ e
-  where
-    go : (v : Bool) → cond v (Some b) (Some a) ≡ None → Some b ≡ None
-    go true q = q
-    go false q = absurd (none_is a q)
-
-pub all_well : (b : Bool) (t : Token) (why : _) → unless b t why ≡ None → b ≡ true
-unfolding unless at
-all_well true t why e = refl
-all_well false t why e = absurd (none_is _ e)
-
 open_snoc : (b : Bool) (ls : List Line) (l : Line) → is_open_behind b (ls ++ l ∷ []) ≡ not (is_commit l.what)
 open_snoc b [] l = refl
 open_snoc b (k ∷ ls) l = open_snoc (not (is_commit k.what)) ls l
-
-pub all_snoc : {A : Type 0} (p : A → Bool) (ls : List A) (l : A) → list_all p ls ≡ true → p l ≡ true → list_all p (ls ++ l ∷ []) ≡ true
-all_snoc p ls l a b = list_all-append p ls (l ∷ []) ∙ ap (λ v. v && (p l && true)) a ∙ ap (λ v. v && true) b
-
-found_passes : (p : ℕ → Bool) (xs : List ℕ) (x : ℕ) → find p xs ≡ Some x → p x ≡ true
-found_passes p [] x e = absurd (none_is x (sym e))
-found_passes p (y ∷ ys) x e = go (p y) refl e (λ q. found_passes p ys x q)
-  where
-    go : (b : Bool) → p y ≡ b → cond b (Some y) (find p ys) ≡ Some x → (find p ys ≡ Some x → p x ≡ true) → p x ≡ true
-    go true is q later = ap p (sym (some_is y x q)) ∙ is
-    go false is q later = later q
-
-connection_within : (head : Head) (line : List ℕ) (a : Token) (at : ℕ) → is_connection head line a at ≡ true → at < length head.conns
-connection_within head line a at e = go (slice_get head.conns at) refl e
-  where
-    go : (o : Option ConnDef) → slice_get head.conns at ≡ o → option_map_or (λ d. gives line a d.name) o false ≡ true → at < length head.conns
-    go (Some d) is q = slice_get_within head.conns at d is
-    go None is q = absurd (false_true q)
-
--- a connection that a line uses without a fault is declared
-connection_there : (head : Head) (line : List ℕ) (a : Token) → connection_fault head line a ≡ None → (connection_of head line a).0 < length head.conns
-unfolding connection_place
-connection_there head line a e = go (connection_place head line a) refl (all_well (is_some (connection_place head line a)) a Unknown e)
-  where
-    go : (o : Option ℕ) → connection_place head line a ≡ o → is_some o ≡ true → (option_map_or (λ at. at) (connection_place head line a) 0) < length head.conns
-    go (Some at) is q =
-        let same : option_map_or (λ at. at) (connection_place head line a) 0 ≡ at = ap (λ o. option_map_or (λ at. at) o 0) is in
-        let less : at < length head.conns = connection_within head line a at (found_passes (is_connection head line a) places at is) in
-        omega (arith, same, less)
-    go None is q = absurd (false_true q)
 
 -- ---- one line
 
@@ -209,7 +113,7 @@ headed s head h is tables conns rows some_rows indexes =
       ended = λ e. absurd (not_ended s place.Head is refl e);
     }
 
-asked : (s : Reader) (n c : ℕ) (x : Statement) → Sound s → s.place ≡ place.Body → c < length s.script.head.conns → is_built_statement x ≡ true → is_sound_statement s.script.head x ≡ true → nat_lt (length s.script.lines) 1000 ≡ true
+asked : (s : Reader) (n c : ℕ) (x : Statement) → Sound s → s.place ≡ place.Body → c < length s.script.head.conns → sql.is_built x ≡ true → is_sound_statement s.script.head x ≡ true → nat_lt (length s.script.lines) 1000 ≡ true
     → Sound (advance s n (event.Asked (Some (record { 0 = c })) false (what.Statement x)))
 asked s n c x h is there built sound few =
     let line : Line = record { number = n; conn = Some (record { 0 = c }); free = false; what = what.Statement x } in
@@ -221,7 +125,7 @@ asked s n c x h is there built sound few =
       indexes = h.indexes;
       none = λ b. absurd (false_true (sym (ap is_before is) ∙ b));
       few = let less : length s.script.lines < 1000 = ltb-true (length s.script.lines) 1000 few in omega (arith, length-append s.script.lines (line ∷ []), less);
-      lines = all_snoc (is_built_line s.script.head) s.script.lines line h.lines (ap (λ v. v && (is_built_statement x && is_sound_statement s.script.head x)) (first_one c h.conns there) ∙ ap (λ v. v && is_sound_statement s.script.head x) built ∙ sound);
+      lines = all_snoc (is_built_line s.script.head) s.script.lines line h.lines (ap (λ v. v && (sql.is_built x && is_sound_statement s.script.head x)) (first_one c h.conns there) ∙ ap (λ v. v && is_sound_statement s.script.head x) built ∙ sound);
       manned = λ e. absurd (none_there c e there);
       closed = open_snoc false s.script.lines line;
       ended = λ e. absurd (not_ended s place.Body is refl e);
@@ -247,14 +151,6 @@ closed_here s n h is shut = record {
   closed = h.closed;
   ended = λ _. shut;
 }
-
--- an event without a fault, and what is found
-record IsPlain (e : Event) (c : Checked Event) : Type 0 where
-  value : e ≡ c.value
-  none : c.fault ≡ None
-
-is_plain : (e : Event) (c : Checked Event) → checked e None ≡ c → IsPlain e c
-is_plain e c p = record { value = value_is (checked e None) c p; none = sym (fault_is (checked e None) c p) }
 
 config-sound : (s : Reader) (n : ℕ) (line : List ℕ) (w : _) (e : Event) → Sound s → s.place ≡ place.Head → checked e None ≡ configured s.set line w → Sound (advance s n e)
 unfolding configured
@@ -285,17 +181,6 @@ table-sound s n line t cs e h is p =
     one_more : (d : TableDef) → length s.script.head.tables < 16 → length (s.script.head.tables ++ d ∷ []) ≤ 16
     one_more d lt = omega (arith, length-append s.script.head.tables (d ∷ []))
 
--- a row that is stored without a fault fits its table
-row-fits : (head : Head) (line : List ℕ) (first t : Token) (vs : List Token) (close : Token) → row_fault head (table_names head line t) first t (table_of head line t) vs close ≡ None → row_fits head (table_of head line t) (stored_row line vs) ≡ true
-unfolding table_names table_of at
-row-fits head line first t vs close e = go (is_some (table_place head line t)) refl e
-  where
-    go : (b : Bool) → is_some (table_place head line t) ≡ b → cond b (values_fault head line first (table_of head line t) (columns_in head (table_place head line t)) vs close) (at t Unknown) ≡ None → row_fits head (table_in (table_place head line t)) (stored_row line vs) ≡ true
-    go true is q =
-        named-fits head line t (stored_row line vs) (table_place head line t) refl is
-        (stored-fits line (columns_in head (table_place head line t)) vs close (no_least_right (full_fault head (table_of head line t)) _ (no_least_right (unless (not (repeats_keys head (table_of head line t) (stored_row line vs))) first Duplicate) _ q)))
-    go false is q = absurd (none_is (record { place = t.start; cause = Unknown }) q)
-
 row-sound : (s : Reader) (n : ℕ) (line : List ℕ) (first t : Token) (vs : List Token) (close : Token) (e : Event) → Sound s → s.place ≡ place.Head → is_built s e ≡ true → checked e None ≡ rowed s.script.head line first t vs close → Sound (advance s n e)
 unfolding rowed
 row-sound s n line first t vs close e h is built p =
@@ -316,24 +201,6 @@ connect-sound s n line a l e h is built p =
     one_more : (d : ConnDef) → (length s.script.head.conns == 0) ≡ true → length (s.script.head.conns ++ d ∷ []) ≤ 1
     one_more d e = let z : length s.script.head.conns ≡ 0 = eqb-true (length s.script.head.conns) 0 e in omega (arith, length-append s.script.head.conns (d ∷ []))
 
--- what iso_sql takes for built runs
-built-runs : (x : Statement) → sql.is_built x ≡ true → is_built_statement x ≡ true
-built-runs (statement.Select t items cond (Some level.Ur)) e = refl
-built-runs (statement.Select t items cond (Some level.Cs)) e = absurd (false_true e)
-built-runs (statement.Select t items cond (Some level.Rs)) e = absurd (false_true e)
-built-runs (statement.Select t items cond (Some level.Rr)) e = absurd (false_true e)
-built-runs (statement.Select t items cond None) e = absurd (false_true e)
-built-runs (statement.Insert t row) e = refl
-built-runs (statement.Update t sets cond l) e = absurd (false_true e)
-built-runs (statement.Delete t cond l) e = absurd (false_true e)
-built-runs statement.Commit e = refl
-built-runs statement.Rollback e = absurd (false_true e)
-built-runs (statement.RollbackTo n) e = absurd (false_true e)
-built-runs (statement.Savepoint n) e = absurd (false_true e)
-built-runs (statement.LockTable t m) e = absurd (false_true e)
-built-runs (statement.SetIsolation l) e = absurd (false_true e)
-built-runs (statement.SetWait b) e = absurd (false_true e)
-
 statement_line-sound : (s : Reader) (n : ℕ) (line : List ℕ) (free : Bool) (a : Token) (ts : List Token) (x : Checked Statement) (e : Event) → Sound s → s.place ≡ place.Body → is_built s e ≡ true → gq.statement s.script.head line ts x
     → checked e None ≡ stated s.script.head line free a x → Sound (advance s n e)
 unfolding stated
@@ -343,7 +210,7 @@ statement_line-sound s n line free a ts x e h is built w p =
     let b : (not free && (nat_lt (length s.script.lines) 1000 && sql.is_built x.value)) ≡ true = ap (is_built s) (sym v) ∙ built in
     let more : (nat_lt (length s.script.lines) 1000 && sql.is_built x.value) ≡ true = and_right (not free) _ b in
     subst (λ (z : Event). Sound (advance s n z)) (sym v) (subst (λ (f : Bool). Sound (advance s n (event.Asked (Some (connection_of s.script.head line a)) f (what.Statement x.value)))) (sym (is_false free (and_left (not free) _ b)))
-    (asked s n (connection_of s.script.head line a).0 x.value h is (connection_there s.script.head line a (no_least_left (connection_fault s.script.head line a) x.fault none)) (built-runs x.value (and_right (nat_lt (length s.script.lines) 1000) _ more))
+    (asked s n (connection_of s.script.head line a).0 x.value h is (connection_there s.script.head line a (no_least_left (connection_fault s.script.head line a) x.fault none)) (and_right (nat_lt (length s.script.lines) 1000) _ more)
     (statement-sound s.script.head line ts x w (no_least_right (connection_fault s.script.head line a) x.fault none)) (and_left (nat_lt (length s.script.lines) 1000) _ more)))
 
 end-sound : (s : Reader) (n : ℕ) (e : Event) → Sound s → s.place ≡ place.Body → is_built s e ≡ true → checked e None ≡ plain event.End → Sound (advance s n e)

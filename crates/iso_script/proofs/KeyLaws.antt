@@ -180,7 +180,7 @@ on_ok (Err e) f p = p
 
 -- ---- keys that stand twice
 
-same_turned : (v w : Value) → is_same_key v w ≡ is_same_key w v
+pub same_turned : (v w : Value) → is_same_key v w ≡ is_same_key w v
 unfolding value_eq
 same_turned Null Null = refl
 same_turned Null (Int n) = refl

@@ -1,6 +1,9 @@
 pub mod RuleLaws
 pub mod ReadLaws
 pub mod RowLaws
+pub mod Faultless
+pub mod IndexLaws
+pub mod HeadLaws
 pub mod BuiltLaws
 pub mod NumberLaws
 pub mod SoundLaws

@@ -15,7 +15,7 @@ use Rattle.iso_grammar.specs.Faults.{at}
 use Rattle.iso_grammar.specs.Values.{value_of}
 use Rattle.iso_sql.specs.Names.{columns_in, is_table_at, gives, table_in, table_place, table_places}
 use Rattle.iso_sql.specs.Rows.{fits, or_null, stored_fault, stored_row, stored_value, stores}
-use Rattle.iso_script.specs.Built.{is_fitting}
+use Rattle.iso_script.specs.Sound.{is_fitting}
 
 some_none : {A : Type 0} (x : A) → Some x ≡ None → ⊥
 some_none x e = cc
@@ -34,7 +34,8 @@ find_passes p (y ∷ ys) x e = go (p y) refl e (λ q. find_passes p ys x q)
     go true is q later = ap p (same q) ∙ is
     go false is q later = later q
 
-slice_get-grow : {A : Type 0} (xs ys : List A) (i : ℕ) (x : A) → slice_get xs i ≡ Some x → slice_get (xs ++ ys) i ≡ Some x
+-- what stands in a place stands there where more comes behind
+pub slice_get-grow : {A : Type 0} (xs ys : List A) (i : ℕ) (x : A) → slice_get xs i ≡ Some x → slice_get (xs ++ ys) i ≡ Some x
 slice_get-grow [] ys i x e = absurd (some_none x (sym e))
 slice_get-grow (y ∷ xs) ys zero x e = e
 slice_get-grow (y ∷ xs) ys (suc i) x e = slice_get-grow xs ys i x e

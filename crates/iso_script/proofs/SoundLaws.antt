@@ -1,384 +1,247 @@
--- A script that is read is sound.
-use Rattle.std.proofs.Common.{◌≡◌, ℕ, zero, suc, ◌+◌, ◌≤◌, ◌<◌, Bool, true, false, not, cond, List, [], ◌∷◌, ◌++◌, length, map, Option, Some, None, refl, sym, ap, subst, ◌∙◌, inl, inr, append_assoc, arith}
-use Rattle.std.specs.Prelude.{MatchBool, ◌&&◌, ◌||◌, ◌==◌, filter, nat_lt, nat_le, is_some, pos, negsuc, ℤ}
-use Rattle.std.specs.List.{list_all, list_any}
-use Rattle.std.specs.Option.{option_map_or}
-use Rattle.std.proofs.lemmas.Bool.{lt-ltb, le-leb, ltb-false, eqb-true, and_from}
-use Rattle.std.proofs.lemmas.List.{append-nil}
-use Rattle.iso_types.specs.Ids.{table_eq, text_eq}
-use Rattle.iso_types.specs.declared.head.Column.{Column}
-use Rattle.iso_types.specs.declared.head.Config.{Config}
-use Rattle.iso_types.specs.declared.head.ConnDef.{ConnDef}
-use Rattle.iso_types.specs.declared.head.FirstRow.{FirstRow}
+-- A script that is read is sound, whether or not this stage of the project runs it.
+use Rattle.std.proofs.Common.{◌≡◌, ℕ, ◌+◌, ◌≤◌, Bool, true, false, cond, List, [], ◌∷◌, ◌++◌, length, Option, Some, None, refl, sym, ap, subst, ◌∙◌, inl, inr, length-append, arith}
+use Rattle.std.specs.Prelude.{MatchBool, filter, nat_le}
+use Rattle.std.specs.List.{list_all}
+use Rattle.std.proofs.lemmas.Bool.{and_from, leb-false, lt-ltb}
+use Rattle.std.proofs.lemmas.List.Elements.{filter-append}
+use Rattle.iso_types.specs.Head.{is_conn}
 use Rattle.iso_types.specs.declared.head.Head.{Head}
-use Rattle.iso_types.specs.declared.head.IndexDef.{IndexDef}
-use Rattle.iso_types.specs.declared.head.TableDef.{TableDef}
+use Rattle.iso_types.specs.declared.head.Isolation.{Isolation}
 use Rattle.iso_types.specs.declared.value.Conn.{Conn}
-use Rattle.iso_grammar.specs.declared.fault.Cause.TheVariants.{Duplicate, Limit}
-use Rattle.iso_grammar.specs.declared.fault.Fault.{Fault}
+use Rattle.iso_grammar.specs.declared.fault.Checked.{Checked}
 use Rattle.iso_grammar.specs.declared.token.Token.{Token}
-use Rattle.iso_grammar.specs.Faults.{checked, least, unless}
+use Rattle.iso_grammar.specs.Faults.{checked}
 use Rattle.iso_grammar.specs.Lex.{is_skipped, tokens}
 use Rattle.iso_grammar.specs.Lines as text
-use Rattle.std.specs.Char.{to_ascii_uppercase}
-use Rattle.iso_grammar.specs.Values.{integer, name, text_of}
-use Rattle.iso_sql.specs.Names.{gives, name_of}
 use Rattle.iso_sql.specs.Sound.{is_sound_statement}
+use Rattle.iso_sql.specs.Statements as sql
+use Rattle.iso_sql.specs.declared.statement.Statement.{Statement}
+use Rattle.iso_sql.proofs.SoundFacts.{least_none}
+use Rattle.iso_sql.proofs.SoundStatements.{statement-sound}
 use Rattle.iso_script.specs.declared.script.Line.{Line}
 use Rattle.iso_script.specs.declared.script.Script.{Script}
 use Rattle.iso_script.specs.declared.script.What.{What}
 use Rattle.iso_script.specs.declared.script.What.TheVariants as what
 use Rattle.iso_script.specs.declared.event.Event.{Event}
 use Rattle.iso_script.specs.declared.event.Event.TheVariants as event
+use Rattle.iso_script.specs.declared.event.Setting.{Setting}
 use Rattle.iso_script.specs.declared.reader.Place.{Place}
 use Rattle.iso_script.specs.declared.reader.Place.TheVariants as place
 use Rattle.iso_script.specs.declared.reader.Reader.{Reader}
 use Rattle.iso_script.specs.declared.words.ColumnWords.{ColumnWords}
-use Rattle.iso_script.specs.declared.words.SettingName.{SettingName}
-use Rattle.iso_script.specs.declared.words.SettingName.TheVariants as setting
+use Rattle.iso_script.specs.declared.words.IndexWords.{IndexWords}
 use Rattle.iso_script.specs.declared.words.SettingWords.{SettingWords}
-use Rattle.iso_script.specs.declared.words.TypeWords.{TypeWords}
-use Rattle.iso_script.specs.declared.words.TypeWords.TheVariants as ty
-use Rattle.iso_script.specs.Advance.{advance, with_setting}
-use Rattle.iso_script.specs.Built.{IsBuilt, is_built_line, is_built_statement, is_built_what, is_first}
-use Rattle.iso_script.specs.Events.{column_fault, column_of, columns_fault, configured, connect_fault, connected, declared, kind_fault, kind_of, setting_of, setting_value_fault, is_snapshot, snapshots, stated, expired, pictured, plain, table_fault, whole_line, least_of, most_of, is_set}
+use Rattle.iso_script.specs.Advance.{advance, with_head, with_setting}
+use Rattle.iso_script.specs.Events.{configured, connected, declared, expired, is_snapshot, pictured, plain, snapshots, stated}
 use Rattle.iso_script.specs.Keyed.{index_words, indexed, rowed}
-use Rattle.iso_script.specs.Naming.{declared_fault, has_connection, has_table, named, ranged, ranged_or_low, within}
+use Rattle.iso_script.specs.Naming.{connection_fault, connection_of}
 use Rattle.iso_script.specs.Numbered.{rises_above}
-use Rattle.iso_script.specs.Reading.{fits, ReadsFrom, reads, start}
+use Rattle.iso_script.specs.Reading.{ReadsFrom, fits, reads, start}
 use Rattle.iso_script.specs.Rules.{rule}
-use Rattle.iso_script.specs.Sound.{IsSound, are_new, is_sound_column, is_sound_config, is_sound_connection, is_sound_index, is_sound_kind, is_sound_line, is_sound_table, is_sound_what}
-use Rattle.iso_script.proofs.BuiltLaws.{none_is, false_true, and_left, and_right, or_left, value_is, fault_is, no_least_left, no_least_right, all_well, all_snoc, is_false, reads-built}
+use Rattle.iso_script.specs.Sound.{IsSound, IsSoundHead, is_sound_line, is_sound_what}
+use Rattle.iso_script.proofs.Faultless.{all_snoc, connection_there, false_true, fault_is, unlimited, value_is}
+use Rattle.iso_script.proofs.HeadLaws.{config-head, connect-head, index-head, row-head, table-head}
 use Rattle.iso_script.proofs.NumberLaws.{reads-rising}
 
--- ---- names
+-- head lines may come
+abbrev pub is_before : Place → Bool
+is_before place.First = true
+is_before place.Head = true
+is_before _ = false
 
-are_new-snoc : (before ns : List (List ℕ)) (n : List ℕ) → are_new before ns ≡ true → list_any (text_eq n) (before ++ ns) ≡ false → are_new before (ns ++ n ∷ []) ≡ true
-are_new-snoc before [] n e f = ap (λ v. not v && true) (ap (list_any (text_eq n)) (sym (append-nil before)) ∙ f)
-are_new-snoc before (m ∷ ns) n e f =
-    and_from (not (list_any (text_eq m) before)) (are_new (before ++ m ∷ []) (ns ++ n ∷ [])) (and_left (not (list_any (text_eq m) before)) (are_new (before ++ m ∷ []) ns) e)
-    (are_new-snoc (before ++ m ∷ []) ns n (and_right (not (list_any (text_eq m) before)) (are_new (before ++ m ∷ []) ns) e) (ap (list_any (text_eq n)) (append_assoc before (m ∷ []) ns) ∙ f))
+-- what holds between lines
+record Sound (s : Reader) : Type 0 where
+  head : IsSoundHead s.script.head
+  none : is_before s.place ≡ true → s.script.lines ≡ []
+  lines : list_all (is_sound_line s.script.head) s.script.lines ≡ true
+  pictures : length (snapshots s.script.lines) ≤ 32
 
-map-snoc : {A B : Type 0} (f : A → B) (xs : List A) (x : A) → map f (xs ++ x ∷ []) ≡ map f xs ++ f x ∷ []
-map-snoc f [] x = refl
-map-snoc f (y ∷ xs) x = ap (λ z. f y ∷ z) (map-snoc f xs x)
+-- ---- head lines
 
-module _ {A : Type 0} (name_in : A → List ℕ) where
-  names-any : (line : List ℕ) (t : Token) (n : List ℕ) → name_of line t ≡ Some n → (ds : List A) → list_any (λ d. gives line t (name_in d)) ds ≡ list_any (text_eq n) (map name_in ds)
-  unfolding gives
-  names-any line t n is [] = refl
-  names-any line t n is (d ∷ ds) =
-      ap (λ o. option_map_or (λ m. text_eq m (name_in d)) o false || list_any (λ d. gives line t (name_in d)) ds) is
-      ∙ ap (λ v. text_eq n (name_in d) || v) (names-any line t n is ds)
+at_place : (s : Reader) (p : Place) → Sound s → (is_before p ≡ true → s.script.lines ≡ []) → Sound (record s { place = p })
+at_place s p h none = record { head = h.head; none = none; lines = h.lines; pictures = h.pictures }
 
-  -- a name that is declared without a fault is new
-  fresh : (line : List ℕ) (t : Token) (ds : List A) → declared_fault (list_any (λ d. gives line t (name_in d)) ds) line t ≡ None → list_any (text_eq (named line t)) (map name_in ds) ≡ false
-  unfolding declared_fault named
-  fresh line t ds e = go (name_of line t) refl (all_well (is_some (name_of line t)) t Limit (no_least_left (unless (is_some (name_of line t)) t Limit) (unless (not taken) t Duplicate) e))
-    where
-      taken : Bool
-      taken = list_any (λ d. gives line t (name_in d)) ds
+headed : (s : Reader) (head : Head) → Sound s → s.place ≡ place.Head → IsSoundHead head → Sound (with_head s head)
+headed s head h is good =
+    let empty : s.script.lines ≡ [] = h.none (ap is_before is) in
+    record { head = good; none = λ _. empty; lines = ap (list_all (is_sound_line head)) empty; pictures = h.pictures }
 
-      go : (o : Option (List ℕ)) → name_of line t ≡ o → is_some o ≡ true → list_any (text_eq (option_map_or (λ n. n) (name_of line t) [])) (map name_in ds) ≡ false
-      go (Some n) is q =
-          ap (λ o. list_any (text_eq (option_map_or (λ n. n) o [])) (map name_in ds)) is ∙ sym (names-any line t n is ds)
-          ∙ is_false (list_any (λ d. gives line t (name_in d)) ds) (all_well (not taken) t Duplicate (no_least_right (unless (is_some (name_of line t)) t Limit) (unless (not taken) t Duplicate) e))
-      go None is q = absurd (false_true q)
+set_up : (s : Reader) (n : ℕ) (x : Setting) → Sound s → s.place ≡ place.Head → IsSoundHead (record s.script.head { config = with_setting s.script.head.config x }) → Sound (advance s n (event.Config x))
+set_up s n x h is good =
+    let r = headed s (record s.script.head { config = with_setting s.script.head.config x }) h is good in
+    record { head = r.head; none = r.none; lines = r.lines; pictures = r.pictures }
 
-  new-snoc : (ds : List A) (d : A) → are_new [] (map name_in ds) ≡ true → list_any (text_eq (name_in d)) (map name_in ds) ≡ false → are_new [] (map name_in (ds ++ d ∷ [])) ≡ true
-  new-snoc ds d e f = ap (are_new []) (map-snoc name_in ds d) ∙ are_new-snoc [] (map name_in ds) (name_in d) e f
-
-length-map : {A B : Type 0} (f : A → B) (xs : List A) → length (map f xs) ≡ length xs
-length-map f [] = refl
-length-map f (x ∷ xs) = let e = length-map f xs in omega (arith, e)
-
--- a name that is declared has at most 32 bytes
-named-short : (line : List ℕ) (t : Token) → nat_le (length (named line t)) 32 ≡ true
-unfolding named name
-named-short line t = go (nat_le (length (text_of line t)) 32) refl
-  where
-    go : (b : Bool) → nat_le (length (text_of line t)) 32 ≡ b → nat_le (length (option_map_or (λ n. n) (cond b (Some (map to_ascii_uppercase (text_of line t))) None) [])) 32 ≡ true
-    go true is = ap (λ k. nat_le k 32) (length-map to_ascii_uppercase (text_of line t)) ∙ is
-    go false is = refl
-
--- ---- numbers
-
-within-bounds : (o : Option ℤ) (low high n : ℕ) → within low high o ≡ Some n → (nat_le low n && nat_le n high) ≡ true
-within-bounds None low high n e = absurd (none_is n (sym e))
-within-bounds (Some (negsuc k)) low high n e = absurd (none_is n (sym e))
-within-bounds (Some (pos k)) low high n e = go (nat_le low k && nat_le k high) refl e
-  where
-    same : Some k ≡ Some n → k ≡ n
-    same p = cc
-
-    go : (b : Bool) → (nat_le low k && nat_le k high) ≡ b → cond b (Some k) None ≡ Some n → (nat_le low n && nat_le n high) ≡ true
-    go true is q = ap (λ m. nat_le low m && nat_le m high) (sym (same q)) ∙ is
-    go false is q = absurd (none_is n (sym q))
-
--- a number without a fault lies within its bounds
-number-within : (line : List ℕ) (t : Token) (low high : ℕ) → unless (is_some (ranged line t low high)) t Limit ≡ None → (nat_le low (ranged_or_low line t low high) && nat_le (ranged_or_low line t low high) high) ≡ true
-unfolding ranged
-number-within line t low high e = go (within low high (integer (text_of line t))) refl (all_well (is_some (ranged line t low high)) t Limit e)
-  where
-    go : (o : Option ℕ) → within low high (integer (text_of line t)) ≡ o → is_some o ≡ true → (nat_le low (option_map_or (λ n. n) o low) && nat_le (option_map_or (λ n. n) o low) high) ≡ true
-    go (Some n) is q = within-bounds (integer (text_of line t)) low high n is
-    go None is q = absurd (false_true q)
-
--- ---- columns
-
-kind-sound : (line : List ℕ) (w : TypeWords) → kind_fault line w ≡ None → is_sound_kind (kind_of line w) ≡ true
-kind-sound line ty.Integer e = refl
-kind-sound line ty.Bigint e = refl
-kind-sound line (ty.Varchar n) e = number-within line n 1 32 e
-
-abbrev name_in_column : Column → List ℕ
-name_in_column c = c.name
-
-columns-new : (line : List ℕ) (so_far : Option Fault) (before : List Column) (cs : List ColumnWords) → columns_fault line so_far before cs ≡ None
-    → (so_far ≡ None) × (are_new (map name_in_column before) (map name_in_column (map (column_of line) cs)) ≡ true) × (list_all is_sound_column (map (column_of line) cs) ≡ true)
-unfolding column_fault column_of
-columns-new line so_far before [] e = (e, refl, refl)
-columns-new line so_far before (c ∷ cs) e =
-    let r = columns-new line (least so_far (column_fault line before c)) (before ++ column_of line c ∷ []) cs e in
-    let own : column_fault line before c ≡ None = no_least_right so_far (column_fault line before c) r.0 in
-    let name_ok = no_least_left (declared_fault (list_any (λ d. gives line c.name d.name) before) line c.name) (kind_fault line c.kind) own in
-    let kind_ok = no_least_right (declared_fault (list_any (λ d. gives line c.name d.name) before) line c.name) (kind_fault line c.kind) own in (
-      no_least_left so_far (column_fault line before c) r.0,
-      and_from (not (list_any (text_eq (named line c.name)) (map name_in_column before))) (are_new (map name_in_column before ++ named line c.name ∷ []) (map name_in_column (map (column_of line) cs))) (ap not (fresh name_in_column line c.name before name_ok))
-          (ap (λ z. are_new z (map name_in_column (map (column_of line) cs))) (sym (map-snoc name_in_column before (column_of line c))) ∙ r.1),
-      and_from (is_sound_column (column_of line c)) (list_all is_sound_column (map (column_of line) cs)) (and_from (nat_le (length (named line c.name)) 32) (is_sound_kind (kind_of line c.kind)) (named-short line c.name) (kind-sound line c.kind kind_ok)) r.2,
-    )
-
--- ---- one line
-
-record Tidy (s : Reader) : Type 0 where
-  config : is_sound_config s.script.head.config ≡ true
-  table_names : are_new [] (map (λ (d : TableDef). d.name) s.script.head.tables) ≡ true
-  tables : list_all is_sound_table s.script.head.tables ≡ true
-  conn_names : are_new [] (map (λ (d : ConnDef). d.name) s.script.head.conns) ≡ true
-  conns : list_all is_sound_connection s.script.head.conns ≡ true
-
--- the settings with one that lies within its bounds
-setting-tidy : (c : Config) (line : List ℕ) (n : SettingName) (on : Bool) (v : Token) → is_sound_config c ≡ true → setting_value_fault line n v ≡ None
-    → is_sound_config (with_setting c (setting_of n on (ranged_or_low line v (least_of n) (most_of n)))) ≡ true
-setting-tidy c line setting.CurCommit on v h e = h
-setting-tidy c line setting.Locklist on v h e = and_from _ _ (number-within line v 4 4096 e) (and_right (nat_le 4 c.locklist && nat_le c.locklist 4096) _ h)
-setting-tidy c line setting.Maxlocks on v h e =
-    let r = and_right (nat_le 4 c.locklist && nat_le c.locklist 4096) _ h in
-    and_from _ _ (and_left (nat_le 4 c.locklist && nat_le c.locklist 4096) _ h) (and_from _ _ (number-within line v 1 100 e) (and_right (nat_le 1 c.maxlocks && nat_le c.maxlocks 100) _ r))
-setting-tidy c line setting.Logmax on v h e =
-    let r = and_right (nat_le 4 c.locklist && nat_le c.locklist 4096) _ h in
-    let q = and_right (nat_le 1 c.maxlocks && nat_le c.maxlocks 100) _ r in
-    and_from _ _ (and_left (nat_le 4 c.locklist && nat_le c.locklist 4096) _ h)
-    (and_from _ _ (and_left (nat_le 1 c.maxlocks && nat_le c.maxlocks 100) _ r) (and_from _ _ (number-within line v 2 1000000 e) (and_right (nat_le 2 c.logmax && nat_le c.logmax 1000000) _ q)))
-setting-tidy c line setting.Window on v h e =
-    let r = and_right (nat_le 4 c.locklist && nat_le c.locklist 4096) _ h in
-    let q = and_right (nat_le 1 c.maxlocks && nat_le c.maxlocks 100) _ r in
-    and_from _ _ (and_left (nat_le 4 c.locklist && nat_le c.locklist 4096) _ h)
-    (and_from _ _ (and_left (nat_le 1 c.maxlocks && nat_le c.maxlocks 100) _ r) (and_from _ _ (and_left (nat_le 2 c.logmax && nat_le c.logmax 1000000) _ q) (number-within line v 1 1000000 e)))
-
-config-tidy : (s : Reader) (n : ℕ) (line : List ℕ) (w : SettingWords) (e : Event) → Tidy s → checked e None ≡ configured s.set line w → Tidy (advance s n e)
+config-sound : (s : Reader) (n : ℕ) (line : List ℕ) (w : SettingWords) (e : Event) → Sound s → s.place ≡ place.Head → checked e None ≡ configured s.set line w → Sound (advance s n e)
 unfolding configured
-config-tidy s n line w e h p =
-    let f : least (unless (not (is_set s.set w.name)) w.word Duplicate) (setting_value_fault line w.name w.value) ≡ None = sym (fault_is (checked e None) (configured s.set line w) p) in
-    let good = setting-tidy s.script.head.config line w.name _ w.value h.config (no_least_right (unless (not (is_set s.set w.name)) w.word Duplicate) (setting_value_fault line w.name w.value) f) in
-    subst (λ (z : Event). Tidy (advance s n z)) (sym (value_is (checked e None) (configured s.set line w) p))
-    (record { config = good; table_names = h.table_names; tables = h.tables; conn_names = h.conn_names; conns = h.conns })
+config-sound s n line w e h is p =
+    subst (λ (z : Event). Sound (advance s n z)) (sym (value_is (checked e None) (configured s.set line w) p))
+    (set_up s n _ h is (config-head s.script.head s.set line w h.head (sym (fault_is (checked e None) (configured s.set line w) p))))
 
-unlimited : (b : Bool) (f : Option Fault) → cond b (whole_line Limit) f ≡ None → (b ≡ false) × (f ≡ None)
-unlimited true f e = absurd (none_is (record { place = 1; cause = Limit }) e)
-unlimited false f e = (refl, e)
+table-sound : (s : Reader) (n : ℕ) (line : List ℕ) (t : Token) (cs : List ColumnWords) (c : ColumnWords) (more : List ColumnWords) (e : Event) → Sound s → s.place ≡ place.Head → cs ≡ c ∷ more
+    → checked e None ≡ declared s.script.head line t cs → Sound (advance s n e)
+unfolding declared
+table-sound s n line t cs c more e h is some p =
+    subst (λ (z : Event). Sound (advance s n z)) (sym (value_is (checked e None) (declared s.script.head line t cs) p))
+    (headed s _ h is (table-head s.script.head line t cs c more h.head some (sym (fault_is (checked e None) (declared s.script.head line t cs) p))))
 
-at_least_one : {A : Type 0} (xs : List A) (x : A) (ys : List A) → xs ≡ x ∷ ys → nat_le 1 (length xs) ≡ true
-at_least_one xs x ys e = le-leb 1 (length xs) (let z : length xs ≡ length (x ∷ ys) = ap length e in omega (arith, z))
+index-sound : (s : Reader) (n : ℕ) (line : List ℕ) (w : IndexWords) (e : Event) → Sound s → s.place ≡ place.Head → checked e None ≡ indexed s.script.head line w → Sound (advance s n e)
+unfolding indexed
+index-sound s n line w e h is p =
+    subst (λ (z : Event). Sound (advance s n z)) (sym (value_is (checked e None) (indexed s.script.head line w) p))
+    (headed s _ h is (index-head s.script.head line w h.head (sym (fault_is (checked e None) (indexed s.script.head line w) p))))
 
-table-tidy : (s : Reader) (n : ℕ) (line : List ℕ) (t : Token) (cs : List ColumnWords) (c : ColumnWords) (more : List ColumnWords) (e : Event) → Tidy s → cs ≡ c ∷ more → checked e None ≡ declared s.script.head line t cs → Tidy (advance s n e)
-unfolding declared has_table
-table-tidy s n line t cs c more e h some p =
-    let f : table_fault s.script.head line t cs ≡ None = sym (fault_is (checked e None) (declared s.script.head line t cs) p) in
-    let u = unlimited (nat_lt 8 (length cs) || nat_le 16 (length s.script.head.tables)) _ f in
-    let name_ok = no_least_left (declared_fault (has_table s.script.head line t) line t) (columns_fault line None [] cs) u.1 in
-    let cols = columns-new line None [] cs (no_least_right (declared_fault (has_table s.script.head line t) line t) (columns_fault line None [] cs) u.1) in
-    let count : length (map (column_of line) cs) ≡ length cs = length-map (column_of line) cs in
-    let few : nat_lt 8 (length cs) ≡ false = or_left (nat_lt 8 (length cs)) (nat_le 16 (length s.script.head.tables)) u.0 in
-    let good : is_sound_table (record { name = named line t; columns = map (column_of line) cs }) ≡ true =
-    and_from _ _ (named-short line t) (and_from _ _ (ap (nat_le 1) count ∙ at_least_one cs c more some) (and_from _ _ (ap (λ k. nat_le k 8) count ∙ not_more (length cs) few) (and_from _ _ cols.1 cols.2))) in
-    subst (λ (z : Event). Tidy (advance s n z)) (sym (value_is (checked e None) (declared s.script.head line t cs) p))
-    (record {
-      config = h.config;
-      table_names = new-snoc (λ (d : TableDef). d.name) s.script.head.tables _ h.table_names (fresh (λ (d : TableDef). d.name) line t s.script.head.tables name_ok);
-      tables = all_snoc is_sound_table s.script.head.tables _ h.tables good;
-      conn_names = h.conn_names;
-      conns = h.conns;
-    })
-  where
-    not_more : (k : ℕ) → nat_lt 8 k ≡ false → nat_le k 8 ≡ true
-    not_more k e = le-leb k 8 (ltb-false 8 k e)
+row-sound : (s : Reader) (n : ℕ) (line : List ℕ) (first t : Token) (vs : List Token) (close : Token) (e : Event) → Sound s → s.place ≡ place.Head → checked e None ≡ rowed s.script.head line first t vs close
+    → Sound (advance s n e)
+unfolding rowed
+row-sound s n line first t vs close e h is p =
+    subst (λ (z : Event). Sound (advance s n z)) (sym (value_is (checked e None) (rowed s.script.head line first t vs close) p))
+    (headed s _ h is (row-head s.script.head line first t vs close h.head (sym (fault_is (checked e None) (rowed s.script.head line first t vs close) p))))
 
-connect-tidy : (s : Reader) (n : ℕ) (line : List ℕ) (a : Token) (l : _) (e : Event) → Tidy s → checked e None ≡ connected s.script.head line a l → Tidy (advance s n e)
-unfolding connected has_connection
-connect-tidy s n line a l e h p =
-    let f : connect_fault s.script.head line a ≡ None = sym (fault_is (checked e None) (connected s.script.head line a l) p) in
-    let u = unlimited (nat_le 32 (length s.script.head.conns)) (declared_fault (has_connection s.script.head line a) line a) f in
-    subst (λ (z : Event). Tidy (advance s n z)) (sym (value_is (checked e None) (connected s.script.head line a l) p))
-    (record {
-      config = h.config;
-      table_names = h.table_names;
-      tables = h.tables;
-      conn_names = new-snoc (λ (d : ConnDef). d.name) s.script.head.conns _ h.conn_names (fresh (λ (d : ConnDef). d.name) line a s.script.head.conns u.1);
-      conns = all_snoc is_sound_connection s.script.head.conns _ h.conns (named-short line a);
-    })
+connect-sound : (s : Reader) (n : ℕ) (line : List ℕ) (a : Token) (l : Isolation) (e : Event) → Sound s → s.place ≡ place.Head → checked e None ≡ connected s.script.head line a l → Sound (advance s n e)
+unfolding connected
+connect-sound s n line a l e h is p =
+    subst (λ (z : Event). Sound (advance s n z)) (sym (value_is (checked e None) (connected s.script.head line a l) p))
+    (headed s _ h is (connect-head s.script.head line a l h.head (sym (fault_is (checked e None) (connected s.script.head line a l) p))))
 
--- an event that declares no name and no setting
-same-head : (s t : Reader) → t.script.head.config ≡ s.script.head.config → t.script.head.tables ≡ s.script.head.tables → t.script.head.conns ≡ s.script.head.conns → Tidy s → Tidy t
-same-head s t c ts cs h = record {
-  config = ap is_sound_config c ∙ h.config;
-  table_names = ap (λ (z : List TableDef). are_new [] (map (λ (d : TableDef). d.name) z)) ts ∙ h.table_names;
-  tables = ap (list_all is_sound_table) ts ∙ h.tables;
-  conn_names = ap (λ (z : List ConnDef). are_new [] (map (λ (d : ConnDef). d.name) z)) cs ∙ h.conn_names;
-  conns = ap (list_all is_sound_connection) cs ∙ h.conns;
-}
+first-sound : (s : Reader) (n : ℕ) (e : Event) → Sound s → s.place ≡ place.First → e ≡ event.First → Sound (advance s n e)
+first-sound s n e h is v = subst (λ (z : Event). Sound (advance s n z)) (sym v) (at_place s place.Head h (λ _. h.none (ap is_before is)))
 
-index-tidy : (s : Reader) (n : ℕ) (d : IndexDef) (e : Event) → Tidy s → e ≡ event.Index d → Tidy (advance s n e)
-index-tidy s n d e h is = subst (λ (z : Event). Tidy (advance s n z)) (sym is) (same-head s (advance s n (event.Index d)) refl refl refl h)
+begin-sound : (s : Reader) (n : ℕ) (e : Event) → Sound s → e ≡ event.Begin → Sound (advance s n e)
+begin-sound s n e h v = subst (λ (z : Event). Sound (advance s n z)) (sym v) (at_place s place.Body h (λ b. absurd (false_true b)))
 
-row-tidy : (s : Reader) (n : ℕ) (f : FirstRow) (e : Event) → Tidy s → e ≡ event.Row f → Tidy (advance s n e)
-row-tidy s n f e h is = subst (λ (z : Event). Tidy (advance s n z)) (sym is) (same-head s (advance s n (event.Row f)) refl refl refl h)
+end-sound : (s : Reader) (n : ℕ) (e : Event) → Sound s → e ≡ event.End → Sound (advance s n e)
+end-sound s n e h v = subst (λ (z : Event). Sound (advance s n z)) (sym v) (at_place s place.After h (λ b. absurd (false_true b)))
 
-asked-tidy : (s : Reader) (n : ℕ) (c : Option Conn) (free : Bool) (w : What) (e : Event) → Tidy s → e ≡ event.Asked c free w → Tidy (advance s n e)
-asked-tidy s n c free w e h is = subst (λ (z : Event). Tidy (advance s n z)) (sym is) (same-head s (advance s n (event.Asked c free w)) refl refl refl h)
-
-first-tidy : (s : Reader) (n : ℕ) (e : Event) → Tidy s → e ≡ event.First → Tidy (advance s n e)
-first-tidy s n e h is = subst (λ (z : Event). Tidy (advance s n z)) (sym is) (same-head s (advance s n event.First) refl refl refl h)
-
-begin-tidy : (s : Reader) (n : ℕ) (e : Event) → Tidy s → e ≡ event.Begin → Tidy (advance s n e)
-begin-tidy s n e h is = subst (λ (z : Event). Tidy (advance s n z)) (sym is) (same-head s (advance s n event.Begin) refl refl refl h)
-
-end-tidy : (s : Reader) (n : ℕ) (e : Event) → Tidy s → e ≡ event.End → Tidy (advance s n e)
-end-tidy s n e h is = subst (λ (z : Event). Tidy (advance s n z)) (sym is) (same-head s (advance s n event.End) refl refl refl h)
-
-head-tidy : (s : Reader) (n : ℕ) (line : List ℕ) (ts : List Token) (e : Event) → Tidy s → rule place.Head s line ts (checked e None) → Tidy (advance s n e)
-unfolding indexed rowed
-head-tidy s n line ts e h w = elim w [
-  | inl v ↦ config-tidy s n line v.5.0 e h v.5.5.1
+head-sound : (s : Reader) (n : ℕ) (line : List ℕ) (ts : List Token) (e : Event) → Sound s → s.place ≡ place.Head → rule place.Head s line ts (checked e None) → Sound (advance s n e)
+head-sound s n line ts e h is w = elim w [
+  | inl v ↦ config-sound s n line v.5.0 e h is v.5.5.1
   | inr o ↦ elim o [
-    | inl v ↦ table-tidy s n line v.5.0 v.5.5.5.0 v.5.5.5.4.0 v.5.5.5.4.5.0 e h v.5.5.5.4.5.5.1 v.5.5.5.5.5.1
+    | inl v ↦ table-sound s n line v.5.0 v.5.5.5.0 v.5.5.5.4.0 v.5.5.5.4.5.0 e h is v.5.5.5.4.5.5.1 v.5.5.5.5.5.1
     | inr o ↦ elim o [
-      | inl v ↦ index-tidy s n _ e h (value_is (checked e None) (indexed s.script.head line (index_words v.0 v.5.0 v.5.5.0 v.5.5.5.5.0 v.5.5.5.5.5.5.0)) v.5.5.5.5.5.5.5.5.1)
+      | inl v ↦ index-sound s n line (index_words v.0 v.5.0 v.5.5.0 v.5.5.5.5.0 v.5.5.5.5.5.5.0) e h is v.5.5.5.5.5.5.5.5.1
       | inr o ↦ elim o [
-        | inl v ↦ row-tidy s n _ e h (value_is (checked e None) (rowed s.script.head line v.0 v.5.0 v.5.5.5.0 v.5.5.5.5.0) v.5.5.5.5.5.1)
+        | inl v ↦ row-sound s n line v.0 v.5.0 v.5.5.5.0 v.5.5.5.5.0 e h is v.5.5.5.5.5.1
         | inr o ↦ elim o [
-          | inl v ↦ connect-tidy s n line v.5.0 v.5.5.0 e h v.5.5.5.1
-          | inr v ↦ begin-tidy s n e h (value_is (checked e None) (plain event.Begin) v.5.1)
+          | inl v ↦ connect-sound s n line v.5.0 v.5.5.0 e h is v.5.5.5.1
+          | inr v ↦ begin-sound s n e h (value_is (checked e None) (plain event.Begin) v.5.1)
         ]
       ]
     ]
   ]
 ]
 
-body-tidy : (s : Reader) (n : ℕ) (line : List ℕ) (ts : List Token) (e : Event) → Tidy s → rule place.Body s line ts (checked e None) → Tidy (advance s n e)
-unfolding stated expired pictured
-body-tidy s n line ts e h w = elim w [
-  | inl v ↦ asked-tidy s n _ v.0 _ e h (value_is (checked e None) (stated s.script.head line v.0 v.5.0 v.5.5.5.0) v.5.5.5.5.5.1)
+-- ---- body lines
+
+-- the SNAPSHOT lines with one line more
+snapshots-snoc : (lines : List Line) (l : Line) → length (snapshots (lines ++ l ∷ [])) ≡ length (snapshots lines) + length (cond (is_snapshot l.what) (l ∷ []) [])
+snapshots-snoc lines l = ap length (filter-append (λ (m : Line). is_snapshot m.what) lines (l ∷ [])) ∙ length-append (snapshots lines) (snapshots (l ∷ []))
+
+asked : (s : Reader) (n : ℕ) (c : Option Conn) (free : Bool) (w : What) → Sound s → s.place ≡ place.Body → is_sound_what s.script.head c w free ≡ true
+    → length (snapshots (s.script.lines ++ record { number = n; conn = c; free = free; what = w } ∷ [])) ≤ 32 → Sound (advance s n (event.Asked c free w))
+asked s n c free w h is good few = record {
+  head = h.head;
+  none = λ b. absurd (false_true (sym (ap is_before is) ∙ b));
+  lines = all_snoc (is_sound_line s.script.head) s.script.lines _ h.lines good;
+  pictures = few;
+}
+
+-- a line that is no SNAPSHOT
+no_picture : (s : Reader) (l : Line) → Sound s → is_snapshot l.what ≡ false → length (snapshots (s.script.lines ++ l ∷ [])) ≤ 32
+no_picture s l h other =
+    let none : length (cond (is_snapshot l.what) (l ∷ []) []) ≡ 0 = ap (λ b. length (cond b (l ∷ []) [])) other in
+    let before = h.pictures in
+    omega (arith, snapshots-snoc s.script.lines l, none, before)
+
+conn-sound : (head : Head) (line : List ℕ) (a : Token) → connection_fault head line a ≡ None → is_conn head (connection_of head line a) ≡ true
+conn-sound head line a e = lt-ltb (connection_of head line a).0 (length head.conns) (connection_there head line a e)
+
+-- whatever the statement: what a statement without a fault comes to is sound
+stated-sound : (s : Reader) (n : ℕ) (line : List ℕ) (free : Bool) (a : Token) (ts : List Token) (x : Checked Statement) (e : Event) → Sound s → s.place ≡ place.Body → sql.statement s.script.head line ts x
+    → checked e None ≡ stated s.script.head line free a x → Sound (advance s n e)
+unfolding stated
+stated-sound s n line free a ts x e h is w p =
+    let f = least_none (connection_fault s.script.head line a) x.fault (sym (fault_is (checked e None) (stated s.script.head line free a x) p)) in
+    let good = and_from (is_conn s.script.head (connection_of s.script.head line a)) (is_sound_statement s.script.head x.value) (conn-sound s.script.head line a f.0) (statement-sound s.script.head line ts x w f.1) in
+    subst (λ (z : Event). Sound (advance s n z)) (sym (value_is (checked e None) (stated s.script.head line free a x) p))
+    (asked s n (Some (connection_of s.script.head line a)) free (what.Statement x.value) h is good (no_picture s _ h refl))
+
+expired-sound : (s : Reader) (n : ℕ) (line : List ℕ) (a : Token) (e : Event) → Sound s → s.place ≡ place.Body → checked e None ≡ expired s.script.head line a → Sound (advance s n e)
+unfolding expired
+expired-sound s n line a e h is p =
+    subst (λ (z : Event). Sound (advance s n z)) (sym (value_is (checked e None) (expired s.script.head line a) p))
+    (asked s n (Some (connection_of s.script.head line a)) false what.Expire h is (conn-sound s.script.head line a (sym (fault_is (checked e None) (expired s.script.head line a) p))) (no_picture s _ h refl))
+
+pictured-sound : (s : Reader) (n : ℕ) (e : Event) → Sound s → s.place ≡ place.Body → checked e None ≡ pictured s.script.lines → Sound (advance s n e)
+unfolding pictured
+pictured-sound s n e h is p =
+    subst (λ (z : Event). Sound (advance s n z)) (sym (value_is (checked e None) (pictured s.script.lines) p)) (asked s n None false what.Snapshot h is refl (one_more _))
+  where
+    room : nat_le 32 (length (snapshots s.script.lines)) ≡ false
+    room = (unlimited (nat_le 32 (length (snapshots s.script.lines))) None (sym (fault_is (checked e None) (pictured s.script.lines) p))).0
+
+    one_more : (l : Line) → length (snapshots (s.script.lines ++ l ∷ [])) ≤ 32
+    one_more l =
+        let before = leb-false 32 (length (snapshots s.script.lines)) room in
+        omega (arith, snapshots-snoc s.script.lines l, at_most_one (is_snapshot l.what) l, before)
+      where
+        at_most_one : (b : Bool) (l : Line) → length (cond b (l ∷ []) []) ≤ 1
+        at_most_one true l = omega arith
+        at_most_one false l = omega arith
+
+body-sound : (s : Reader) (n : ℕ) (line : List ℕ) (ts : List Token) (e : Event) → Sound s → s.place ≡ place.Body → rule place.Body s line ts (checked e None) → Sound (advance s n e)
+body-sound s n line ts e h is w = elim w [
+  | inl v ↦ stated-sound s n line v.0 v.5.0 v.5.5.5.1 v.5.5.5.0 e h is v.5.5.5.4 v.5.5.5.5.5.1
   | inr o ↦ elim o [
-    | inl v ↦ asked-tidy s n _ false what.Expire e h (value_is (checked e None) (expired s.script.head line v.5.0) v.5.5.1)
+    | inl v ↦ expired-sound s n line v.5.0 e h is v.5.5.1
     | inr o ↦ elim o [
-      | inl v ↦ asked-tidy s n None false what.Snapshot e h (value_is (checked e None) (pictured s.script.lines) v.5.1)
-      | inr v ↦ end-tidy s n e h (value_is (checked e None) (plain event.End) v.5.1)
+      | inl v ↦ pictured-sound s n e h is v.5.1
+      | inr v ↦ end-sound s n e h (value_is (checked e None) (plain event.End) v.5.1)
     ]
   ]
 ]
 
-step_tidy : (p : Place) (s : Reader) (n : ℕ) (line : List ℕ) (ts : List Token) (e : Event) → Tidy s → rule p s line ts (checked e None) → Tidy (advance s n e)
-step_tidy place.First s n line ts e h w = first-tidy s n e h (value_is (checked e None) (plain event.First) w.5.5.1)
-step_tidy place.Head s n line ts e h w = head-tidy s n line ts e h w
-step_tidy place.Body s n line ts e h w = body-tidy s n line ts e h w
-step_tidy place.After s n line ts e h w = end-tidy s n e h (value_is (checked e None) (plain event.End) w.1)
+-- ---- all lines
 
-lines_tidy : (texts : List (List ℕ)) (s : Reader) (n : ℕ) (end : Reader) → Tidy s → ReadsFrom s n texts end → Tidy end
-lines_tidy [] s n end h r = subst Tidy (sym r.1) h
-lines_tidy (line ∷ texts) s n end h r = go (is_skipped line) r (λ t h r. lines_tidy texts t (n + 1) end h r)
+step_sound : (p : Place) (s : Reader) (n : ℕ) (line : List ℕ) (ts : List Token) (e : Event) → Sound s → s.place ≡ p → rule p s line ts (checked e None) → Sound (advance s n e)
+step_sound place.First s n line ts e h is w = first-sound s n e h is (value_is (checked e None) (plain event.First) w.5.5.1)
+step_sound place.Head s n line ts e h is w = head-sound s n line ts e h is w
+step_sound place.Body s n line ts e h is w = body-sound s n line ts e h is w
+step_sound place.After s n line ts e h is w = end-sound s n e h (value_is (checked e None) (plain event.End) w.1)
+
+lines_sound : (texts : List (List ℕ)) (s : Reader) (n : ℕ) (end : Reader) → Sound s → ReadsFrom s n texts end → Sound end
+lines_sound [] s n end h r = subst Sound (sym r.1) h
+lines_sound (line ∷ texts) s n end h r = go (is_skipped line) r (λ t h r. lines_sound texts t (n + 1) end h r)
   where
-    go : (v : Bool) → MatchBool v (ReadsFrom s (n + 1) texts end) ((e : Event) × fits s line e × ReadsFrom (advance s n e) (n + 1) texts end) → ((t : Reader) → Tidy t → ReadsFrom t (n + 1) texts end → Tidy end) → Tidy end
+    go : (v : Bool) → MatchBool v (ReadsFrom s (n + 1) texts end) ((e : Event) × fits s line e × ReadsFrom (advance s n e) (n + 1) texts end) → ((t : Reader) → Sound t → ReadsFrom t (n + 1) texts end → Sound end) → Sound end
     go true r later = later s h r
-    go false r later = later (advance s n r.0) (step_tidy s.place s n line (tokens line) r.0 h r.1.0) r.2
+    go false r later = later (advance s n r.0) (step_sound s.place s n line (tokens line) r.0 h refl r.1.0) r.2
 
--- ---- the whole
-
-filter-short : {A : Type 0} (p : A → Bool) (xs : List A) → length (filter p xs) ≤ length xs
-filter-short p [] = omega arith
-filter-short p (x ∷ xs) = go (p x) (filter-short p xs)
-  where
-    go : (b : Bool) → length (filter p xs) ≤ length xs → length (cond b (x ∷ filter p xs) (filter p xs)) ≤ length (x ∷ xs)
-    go true le = omega (arith, le)
-    go false le = omega (arith, le)
-
-module _ (head : Head) where
-  what-sound : (c : Option Conn) (free : Bool) (w : What) → 0 < length head.conns → (is_first c && (not free && is_built_what head w)) ≡ true → is_sound_what head c w ≡ true
-  what-sound (Some c) free (what.Statement x) some e =
-      let zero : c.0 ≡ 0 = eqb-true c.0 0 (and_left (c.0 == 0) _ e) in
-      let built = and_right (not free) (is_built_statement x && is_sound_statement head x) (and_right (c.0 == 0) _ e) in
-      and_from (nat_lt c.0 (length head.conns)) (is_sound_statement head x) (lt-ltb c.0 (length head.conns) (omega (arith, zero, some))) (and_right (is_built_statement x) (is_sound_statement head x) built)
-  what-sound (Some c) free what.Expire some e = absurd (false_true (and_right (not free) false (and_right (c.0 == 0) _ e)))
-  what-sound (Some c) free what.Snapshot some e = absurd (false_true (and_right (not free) false (and_right (c.0 == 0) _ e)))
-  what-sound None free w some e = absurd (false_true e)
-
-  lines-sound : (ls : List Line) → 0 < length head.conns → list_all (is_built_line head) ls ≡ true → list_all (is_sound_line head) ls ≡ true
-  lines-sound [] some e = refl
-  lines-sound (l ∷ ls) some e =
-      and_from (is_sound_line head l) (list_all (is_sound_line head) ls) (what-sound l.conn l.free l.what some (and_left (is_built_line head l) (list_all (is_built_line head) ls) e))
-      (lines-sound ls some (and_right (is_built_line head l) (list_all (is_built_line head) ls) e))
-
-  no-picture : (ls : List Line) → list_all (is_built_line head) ls ≡ true → length (snapshots ls) ≡ 0
-  no-picture [] e = refl
-  no-picture (l ∷ ls) e =
-      go (no-picture ls (and_right (is_built_line head l) (list_all (is_built_line head) ls) e)) l.conn l.free l.what (and_left (is_built_line head l) (list_all (is_built_line head) ls) e)
-    where
-      go : length (snapshots ls) ≡ 0 → (c : Option Conn) (free : Bool) (w : What) → (is_first c && (not free && is_built_what head w)) ≡ true → length (cond (is_snapshot w) (l ∷ snapshots ls) (snapshots ls)) ≡ 0
-      go later c free (what.Statement x) e = later
-      go later c free what.Expire e = later
-      go later c free what.Snapshot e = absurd (false_true (and_right (not free) false (and_right (is_first c) _ e)))
-
-manned_or_not : (head : Head) (ls : List Line) → (length head.conns ≡ 0 → ls ≡ []) → list_all (is_built_line head) ls ≡ true → list_all (is_sound_line head) ls ≡ true
-manned_or_not head ls none built = go (length head.conns) refl
-  where
-    go : (k : ℕ) → length head.conns ≡ k → list_all (is_sound_line head) ls ≡ true
-    go zero is = ap (list_all (is_sound_line head)) (none is)
-    go (suc k) is = lines-sound head ls (omega (arith, is)) built
-
-sound_of : (end : Reader) → IsBuilt end.script → Tidy end → rises_above 0 end.script.lines ≡ true → IsSound end.script
-sound_of end b h rising = record {
+start-sound : Sound start
+start-sound = record {
   head = record {
-    config = h.config;
-    some_tables = b.tables;
-    table_names = h.table_names;
-    tables = h.tables;
-    some_indexes = let z = ap (λ (ds : List IndexDef). length ds) b.indexes in omega (arith, z);
-    few_indexes = λ t. few (λ d. table_eq d.table t);
-    index_names = ap (λ (ds : List IndexDef). are_new [] (map (λ (d : IndexDef). d.name) ds)) b.indexes;
-    indexes = ap (list_all (is_sound_index end.script.head)) b.indexes;
-    some_rows = λ t. let le = filter-short (λ (f : FirstRow). table_eq f.table t) end.script.head.rows in omega (arith, le, b.some_rows);
-    rows = b.rows;
-    some_conns = omega (arith, b.conns);
-    conn_names = h.conn_names;
-    conns = h.conns;
+    config = refl;
+    some_tables = omega arith;
+    table_names = refl;
+    tables = refl;
+    some_indexes = omega arith;
+    few_indexes = λ t. omega arith;
+    index_names = refl;
+    indexes = refl;
+    some_rows = λ t. omega arith;
+    rows = refl;
+    some_conns = omega arith;
+    conn_names = refl;
+    conns = refl;
   };
-  lines = manned_or_not end.script.head end.script.lines b.manned b.lines;
-  pictures = let z = no-picture end.script.head end.script.lines b.lines in omega (arith, z);
-  numbers = rising;
+  none = λ _. refl;
+  lines = refl;
+  pictures = omega arith;
 }
-  where
-    few : (p : IndexDef → Bool) → length (filter p end.script.head.indexes) ≤ 4
-    few p =
-        let z : length end.script.head.indexes ≡ 0 = ap length b.indexes in
-        let le = filter-short p end.script.head.indexes in
-        omega (arith, z, le)
 
-start-tidy : Tidy start
-start-tidy = record { config = refl; table_names = refl; tables = refl; conn_names = refl; conns = refl }
+sound_of : (end : Reader) → Sound end → rises_above 0 end.script.lines ≡ true → IsSound end.script
+sound_of end h rising = record { head = h.head; lines = h.lines; pictures = h.pictures; numbers = rising }
 
 -- what is read is sound
 pub reads-sound : (bytes : List ℕ) (s : Script) → reads bytes s → IsSound s
 reads-sound bytes s r =
-    let t = lines_tidy (text.lines bytes) start 1 r.0 start-tidy r.1 in
-    subst IsSound r.2 (sound_of r.0 (reads-built bytes r.0.script (r.0, r.1, refl)) t (reads-rising bytes r.0.script (r.0, r.1, refl)))
+    subst IsSound r.2 (sound_of r.0 (lines_sound (text.lines bytes) start 1 r.0 start-sound r.1) (reads-rising bytes r.0.script (r.0, r.1, refl)))

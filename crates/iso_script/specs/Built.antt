@@ -2,28 +2,19 @@
 -- SELECT .. WITH UR and COMMIT, at most 1,000 ROW lines and 1,000 body lines, the last of them a COMMIT. // this project's own
 use Rattle.std.specs.List.{list_all}
 use Rattle.std.specs.Prelude.{◌≡◌, ◌≤◌, Bool, true, false, not, ◌&&◌, List, [], ◌∷◌, length, ◌==◌, Option, Some, None}
-use Rattle.iso_types.specs.Head.{row_fits}
-use Rattle.iso_types.specs.declared.head.FirstRow.{FirstRow}
 use Rattle.iso_types.specs.declared.head.Head.{Head}
-use Rattle.iso_types.specs.declared.head.Isolation.TheVariants.{Ur}
 use Rattle.iso_types.specs.declared.value.Conn.{Conn}
 use Rattle.iso_sql.specs.Sound.{is_sound_statement}
-use Rattle.iso_sql.specs.declared.statement.Statement.{Statement}
-use Rattle.iso_sql.specs.declared.statement.Statement.TheVariants.{Commit, Insert, Select}
+use Rattle.iso_sql.specs.Unbuilt as sql
+use Rattle.iso_sql.specs.declared.statement.Statement.TheVariants.{Commit}
+use Rattle.iso_script.specs.Sound.{is_fitting}
 use Rattle.iso_script.specs.declared.script.Line.{Line}
 use Rattle.iso_script.specs.declared.script.Script.{Script}
 use Rattle.iso_script.specs.declared.script.What.{What}
 
--- the statement has a form of this stage
-abbrev pub is_built_statement : Statement → Bool
-is_built_statement (Insert t row) = true
-is_built_statement (Select t items cond (Some Ur)) = true
-is_built_statement Commit = true
-is_built_statement _ = false
-
 -- the line asks for such a statement, and the head allows it
 abbrev pub is_built_what : Head → What → Bool
-is_built_what head (What.Statement s) = is_built_statement s && is_sound_statement head s
+is_built_what head (What.Statement s) = sql.is_built s && is_sound_statement head s
 is_built_what head _ = false
 
 -- the line is the first connection's
@@ -44,10 +35,6 @@ is_commit _ = false
 abbrev pub is_open_behind : Bool → List Line → Bool
 is_open_behind b [] = b
 is_open_behind b (l ∷ ls) = is_open_behind (not (is_commit l.what)) ls
-
--- the row fits its table
-abbrev pub is_fitting : Head → FirstRow → Bool
-is_fitting head f = row_fits head f.table f.row
 
 -- the script is of this stage
 pub record IsBuilt (s : Script) : Type 0 where

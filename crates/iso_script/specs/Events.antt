@@ -39,20 +39,13 @@ whole_line cause = Some (record { place = 1; cause = cause })
 
 -- ---- CONFIG
 
--- the least and the greatest number of a setting
-abbrev pub least_of : SettingName → ℕ
-least_of name.CurCommit = 0
-least_of name.Locklist = 4
-least_of name.Maxlocks = 1
-least_of name.Logmax = 2
-least_of name.Window = 1
-
-abbrev pub most_of : SettingName → ℕ
-most_of name.CurCommit = 0
-most_of name.Locklist = 4096
-most_of name.Maxlocks = 100
-most_of name.Logmax = 1000000
-most_of name.Window = 1000000
+-- the least and the greatest number of a setting; CUR_COMMIT has none
+abbrev pub bounds_of : SettingName → ℕ × ℕ
+bounds_of name.CurCommit = (0, 0)
+bounds_of name.Locklist = (4, 4096)
+bounds_of name.Maxlocks = (1, 100)
+bounds_of name.Logmax = (2, 1000000)
+bounds_of name.Window = (1, 1000000)
 
 -- the setting with its number
 abbrev pub setting_of : SettingName → Bool → ℕ → Setting
@@ -71,7 +64,7 @@ is_set set name.Logmax = set.logmax
 is_set set name.Window = set.window
 
 abbrev pub number_fault : List ℕ → SettingName → Token → Option Fault
-number_fault line n value = unless (is_some (ranged line value (least_of n) (most_of n))) value Limit
+number_fault line n value = unless (is_some (ranged line value (bounds_of n).0 (bounds_of n).1)) value Limit
 
 -- ON or DISABLED, or else a number within the setting's bounds
 abbrev pub setting_value_fault : List ℕ → SettingName → Token → Option Fault
@@ -81,7 +74,7 @@ setting_value_fault line n value = number_fault line n value
 -- CONFIG: a setting once, its number within its bounds
 unfoldable pub configured : Settings → List ℕ → SettingWords → Checked Event
 configured set line w =
-    checked (event.Config (setting_of w.name (same_kind k.On w.value.kind) (ranged_or_low line w.value (least_of w.name) (most_of w.name))))
+    checked (event.Config (setting_of w.name (same_kind k.On w.value.kind) (ranged_or_low line w.value (bounds_of w.name).0 (bounds_of w.name).1)))
     (least (unless (not (is_set set w.name)) w.word Duplicate) (setting_value_fault line w.name w.value))
 
 -- ---- TABLE

@@ -1,5 +1,5 @@
 -- Which bytes are a script, and which is the first bad line of others. // this project's own
-use Rattle.std.specs.Prelude.{◌≡◌, ◌⊎◌, ℕ, Bool, true, false, List, [], length, Some, None}
+use Rattle.std.specs.Prelude.{◌≡◌, ◌⊎◌, ℕ, Bool, true, false, List, [], codes, length, Some, None}
 use Rattle.iso_types.specs.declared.head.Config.{Config}
 use Rattle.iso_grammar.specs.declared.fault.Cause.TheVariants as why
 use Rattle.iso_grammar.specs.declared.fault.Fault.{Fault}
@@ -29,6 +29,24 @@ fits s line e = rule s.place s line (tokens line) (checked e None) × (is_built 
 -- the cause of a fault, with its place
 abbrev pub cause_of : Fault → LineCause
 cause_of f = elim f.cause [ why.Unknown ↦ cause.Unknown f.place | why.TypeFault ↦ cause.TypeFault f.place | why.Duplicate ↦ cause.Duplicate f.place | why.Limit ↦ cause.Limit f.place ]
+
+-- how a cause is called where a script is refused
+abbrev pub word_of : LineCause → List ℕ
+word_of (cause.Syntax place) = codes "SYNTAX"
+word_of (cause.Unknown place) = codes "UNKNOWN"
+word_of (cause.TypeFault place) = codes "TYPE"
+word_of (cause.Duplicate place) = codes "DUPLICATE"
+word_of (cause.Limit place) = codes "LIMIT"
+word_of cause.Unbuilt = codes "UNBUILT"
+
+-- where it stands, in bytes of its line from 1
+abbrev pub place_at : LineCause → ℕ
+place_at (cause.Syntax place) = place
+place_at (cause.Unknown place) = place
+place_at (cause.TypeFault place) = place
+place_at (cause.Duplicate place) = place
+place_at (cause.Limit place) = place
+place_at cause.Unbuilt = 1
 
 -- its tokens begin no line of this position, from the first token on at which they do not
 abbrev pub IsMisspelt : Reader → List ℕ → LineCause → Type 0

@@ -4,13 +4,14 @@
 use Rattle.std.specs.List.{list_all, list_any}
 use Rattle.std.specs.Option.{option_map_or}
 use Rattle.std.specs.Prelude.{◌≡◌, ◌≤◌, ℕ, Bool, true, false, not, ◌&&◌, List, [], ◌∷◌, ◌++◌, map, length, nat_le, slice_get, Option, Some, None}
-use Rattle.iso_types.specs.Head.{is_conn}
+use Rattle.iso_types.specs.Head.{is_conn, row_fits}
 use Rattle.iso_types.specs.Ids.{text_eq}
 use Rattle.iso_types.specs.declared.head.Column.{Column}
 use Rattle.iso_types.specs.declared.head.ColumnKind.{ColumnKind}
 use Rattle.iso_types.specs.declared.head.ColumnKind.TheVariants.{Varchar}
 use Rattle.iso_types.specs.declared.head.Config.{Config}
 use Rattle.iso_types.specs.declared.head.ConnDef.{ConnDef}
+use Rattle.iso_types.specs.declared.head.FirstRow.{FirstRow}
 use Rattle.iso_types.specs.declared.head.Head.{Head}
 use Rattle.iso_types.specs.declared.head.IndexDef.{IndexDef}
 use Rattle.iso_types.specs.declared.head.TableDef.{TableDef}
@@ -21,7 +22,6 @@ use Rattle.iso_script.specs.declared.script.Line.{Line}
 use Rattle.iso_script.specs.declared.script.Script.{Script}
 use Rattle.iso_script.specs.declared.script.What.{What}
 use Rattle.iso_script.specs.declared.script.What.TheVariants as what
-use Rattle.iso_script.specs.Built.{is_fitting}
 use Rattle.iso_script.specs.Events.{snapshots}
 use Rattle.iso_script.specs.Keyed.{has_twice, own_indexes, own_rows}
 use Rattle.iso_script.specs.Numbered.{rises_above}
@@ -60,6 +60,10 @@ is_sound_config c =
     (nat_le 4 c.locklist && nat_le c.locklist 4096)
     && ((nat_le 1 c.maxlocks && nat_le c.maxlocks 100) && ((nat_le 2 c.logmax && nat_le c.logmax 1000000) && (nat_le 1 c.window && nat_le c.window 1000000)))
 
+-- the row fits its table
+abbrev pub is_fitting : Head → FirstRow → Bool
+is_fitting head f = row_fits head f.table f.row
+
 pub record IsSoundHead (head : Head) : Type 0 where
   pub config : is_sound_config head.config ≡ true
   pub some_tables : length head.tables ≤ 16
@@ -78,15 +82,15 @@ pub record IsSoundHead (head : Head) : Type 0 where
 
 -- ---- the body
 
--- a statement that the head allows, or an EXPIRE, by a connection of the head; or a SNAPSHOT without one
-abbrev pub is_sound_what : Head → Option Conn → What → Bool
-is_sound_what head (Some c) (what.Statement x) = is_conn head c && is_sound_statement head x
-is_sound_what head (Some c) what.Expire = is_conn head c
-is_sound_what head None what.Snapshot = true
-is_sound_what head _ _ = false
+-- a statement that the head allows, behind `&` or not, or an EXPIRE, by a connection of the head; or a SNAPSHOT without one
+abbrev pub is_sound_what : Head → Option Conn → What → Bool → Bool
+is_sound_what head (Some c) (what.Statement x) free = is_conn head c && is_sound_statement head x
+is_sound_what head (Some c) what.Expire false = is_conn head c
+is_sound_what head None what.Snapshot false = true
+is_sound_what head _ _ _ = false
 
 abbrev pub is_sound_line : Head → Line → Bool
-is_sound_line head l = is_sound_what head l.conn l.what
+is_sound_line head l = is_sound_what head l.conn l.what l.free
 
 pub record IsSound (s : Script) : Type 0 where
   pub head : IsSoundHead s.head

@@ -28,27 +28,17 @@ pub fn whole_line() -> Option<Fault>
     })
 }
 
-fn least_of(name: SettingName) -> u32
-    ensures { result ≡ spec.least_of name }
+/// The least and the greatest number of a setting.
+fn bounds_of(name: SettingName) -> (u32, u32)
+    ensures bounds { result ≡ spec.bounds_of name }
+    ensures ordered { result.0 ≤ result.1 }
 {
     match name {
-        SettingName::CurCommit => 0,
-        SettingName::Locklist => 4,
-        SettingName::Maxlocks => 1,
-        SettingName::Logmax => 2,
-        SettingName::Window => 1,
-    }
-}
-
-fn most_of(name: SettingName) -> u32
-    ensures { result ≡ spec.most_of name }
-{
-    match name {
-        SettingName::CurCommit => 0,
-        SettingName::Locklist => 4096,
-        SettingName::Maxlocks => 100,
-        SettingName::Logmax => 1_000_000,
-        SettingName::Window => 1_000_000,
+        SettingName::CurCommit => (0, 0),
+        SettingName::Locklist => (4, 4096),
+        SettingName::Maxlocks => (1, 100),
+        SettingName::Logmax => (2, 1_000_000),
+        SettingName::Window => (1, 1_000_000),
     }
 }
 
@@ -79,8 +69,9 @@ fn is_set(set: Settings, name: SettingName) -> bool
 fn number_fault(line: &[u8], name: SettingName, value: Token) -> Option<Fault>
     ensures { result ≡ spec.number_fault line.now name value }
 {
+    let (low, high) = bounds_of(name);
     unless(
-        ranged(line, value, least_of(name), most_of(name)).is_some(),
+        ranged(line, value, low, high).is_some(),
         value,
         Cause::Limit,
     )
@@ -100,7 +91,8 @@ pub fn configured(set: Settings, line: &[u8], words: SettingWords) -> Checked<Ev
     ensures { result ≡ spec.configured set line.now words }
 {
     let on = same(Kind::On, words.value.kind);
-    let number = ranged_or_low(line, words.value, least_of(words.name), most_of(words.name));
+    let (low, high) = bounds_of(words.name);
+    let number = ranged_or_low(line, words.value, low, high);
     let twice = unless(!is_set(set, words.name), words.word, Cause::Duplicate);
     Checked {
         value: Event::Config(setting_of(words.name, on, number)),

@@ -1,7 +1,7 @@
 //! What the lines ROW and INDEX stand for, and what is wrong with them: rows, keys and the indexes on them.
 
 ghost use Rattle.std.specs.Prelude.{◌≡◌, ◌&&◌, length, nat_le, IfOk};
-ghost use Rattle.iso_sql.specs.Names.{names_of, place_in as placed};
+ghost use Rattle.iso_sql.specs.Names.{names_of};
 ghost use Rattle.iso_sql.specs.Rows.{stored_row as stored};
 ghost use Rattle.iso_script.specs.Kept.{IsKept};
 ghost use Rattle.iso_script.specs.Keyed as spec;
@@ -13,7 +13,7 @@ use crate::naming::{declared_fault, has_index, named};
 use crate::progress::Progress;
 use crate::words::{IndexWords, RowWords};
 use iso_grammar::{Cause, Checked, Fault, Token, fault_at, least, unless};
-use iso_sql::{Scope, scope_of, stored_fault, stored_row, table_of};
+use iso_sql::{Scope, place_in, scope_of, stored_fault, stored_row, table_of};
 use iso_types::{Column, FirstRow, Head, IndexDef, Memory, TableId, Value};
 use std::alloc::Global;
 
@@ -264,15 +264,6 @@ fn place_fault(
         on_fault(alloc, head, words, table, scope)
     } else {
         Ok(unknown_fault(head, words.table))
-    }
-}
-
-fn place_in(place: Option<u8>) -> u8
-    ensures { result ≡ placed place }
-{
-    match place {
-        Some(place) => place,
-        None => 0,
     }
 }
 

@@ -1,24 +1,17 @@
 //! The keys of the rows so far, kept so that a line need not look through the rows before it.
 
 ghost use Rattle.std.specs.Prelude.{◌≡◌, ◌&&◌, ◌||◌, ℕ, OnOk};
-ghost use Rattle.iso_types.specs.Head.{is_null as null};
 ghost use Rattle.iso_types.specs.declared.value.TableId.{TableId as Table};
 ghost use Rattle.iso_types.specs.declared.value.Value.{Value as Cell};
 ghost use Rattle.iso_script.specs.Keyed.{has_this};
 ghost use Rattle.iso_script.specs.Kept.{has_value as has, is_that};
 
+use iso_sql::is_null;
 use iso_types::{FirstRow, Memory, TableId, Value};
 use std::collections::BTreeSet;
 
 /// Values that are not NULL, each behind its table and its column's place. This project's own.
 pub type Keys = BTreeSet<(u8, usize, Value)>;
-
-/// Whether the value is NULL, which is no key. Db2 LUW, 'Unique indexes'.
-pub fn is_null(value: &Value) -> bool
-    ensures { result ≡ null value.now }
-{
-    matches!(value, Value::Null)
-}
 
 /// Whether the set has the value in this column of this table. Cost: the logarithm of the set's size.
 pub fn has_value(keys: &Keys, table: TableId, column: usize, value: &Value) -> bool
@@ -27,7 +20,7 @@ pub fn has_value(keys: &Keys, table: TableId, column: usize, value: &Value) -> b
     keys.contains(&(table.0, column, *value))
 }
 
-/// Adds the value in this column of this table, unless it is NULL. `Memory` is want of memory for it. Cost: the
+/// Adds the value in this column of this table, unless it is NULL, which is no key (Db2 LUW, 'Unique indexes'). `Memory` is want of memory for it. Cost: the
 /// logarithm of the set's size.
 pub fn add_value(
     keys: &mut Keys,

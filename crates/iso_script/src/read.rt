@@ -47,7 +47,14 @@ impl Script {
     ///
     /// `BadLine` names the first line that is no line of the grammar in its position, or has a fault, or is not built
     /// yet, with its cause and place; a missing END is `Syntax(1)` of the line after the last. `Memory` is want of
-    /// memory. Cost: one pass over the bytes, a look for each name among those that were declared, and for each value of
+    /// memory.
+    ///
+    /// A script that is read is sound, whether or not this stage runs it: the settings lie within their bounds; the tables,
+    /// columns, indexes and connections are no more than their limits and their names differ; each row fits its table, each
+    /// index stands on a NOT NULL column and no unique one has a key twice; each statement is one that the head allows, by a
+    /// connection of the head; the numbers of the lines rise.
+    ///
+    /// Cost: one pass over the bytes, a look for each name among those that were declared, and for each value of
     /// a row the logarithm of the number of values before it; a UNIQUE INDEX line takes one look at each row before it.
     /// Until the end, values of rows stand in memory twice. The form is this project's own.
     pub fn read(alloc: Global, bytes: &[u8]) -> Result<Script, ScriptFault>

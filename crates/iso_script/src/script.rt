@@ -1,3 +1,5 @@
+//! Scripts, as they are read.
+
 use iso_sql::Statement;
 use iso_types::{Conn, Head, Items};
 

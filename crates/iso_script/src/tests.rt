@@ -2,6 +2,7 @@ ghost use Rattle.std.specs.Prelude.{◌≡◌, ◌<◌, ◌^◌, length, IfOk, O
 ghost use Rattle.iso_script.specs.Kept.{IsKept};
 
 use super::*;
+use crate::fault::cause_of;
 use crate::progress::Progress;
 use iso_grammar::tokens_of;
 use iso_types::Items;
@@ -14,7 +15,7 @@ const LOOSE: &[u8] =
     b"-- a script\r\n\r\ndb2iso\t01\r\nconfig cur_commit Disabled\r\n \t \r\nTable t(id Integer not null,b bigint, v varchar(32))\r\nROW T (1, -9223372036854775808, 'it''s 32 bytes, with doubled ''''x''')\r\nrow t(-7,NULL,null)\r\n\tConnect a Ur\r\nTABLE LATER (N INTEGER)\r\nTABLE ABCDEFGHIJKLMNOPQRSTUVWXYZ123456 (A INTEGER, B INTEGER, C INTEGER, D INTEGER, E INTEGER, F INTEGER, G INTEGER, H INTEGER)\r\nbegin\r\n-- a body line\r\na : Insert into t values (7, 0, 'x''y') ;\r\nA:SELECT ID FROM T WHERE NOT B=7 AND v IS NULL with ur\r\nA:select count ( * ) from later where n between -1 and 1 with ur;\r\nA: COMMIT WORK\r\nend\r\n\r\n--";
 
 // Head lines, and what is wrong with the last of them. The first line and its table are written before them.
-const HEADS: [(&[u8], LineCause); 43] = [
+const HEADS: [(&[u8], LineCause); 44] = [
     (b"TABLE", LineCause::Syntax(6)),
     (b"TABLE T (ID INTEGER", LineCause::Syntax(20)),
     (b"TABLE T (ID INTEGER NOT)", LineCause::Syntax(24)),
@@ -23,6 +24,7 @@ const HEADS: [(&[u8], LineCause); 43] = [
     (b"CONFIG WINDOW 4X", LineCause::Syntax(16)),
     (b"CONFIG CUR_COMMIT AVAILABLE", LineCause::Syntax(19)),
     (b"ROW T ('unfinished)", LineCause::Syntax(8)),
+    (b"ROW T ('a\rb')", LineCause::Syntax(8)),
     (b"EXPIRE A", LineCause::Syntax(1)),
     (b"CONFIG LOCKLIST 3", LineCause::Limit(17)),
     (b"CONFIG LOCKLIST 4097", LineCause::Limit(17)),
@@ -73,7 +75,7 @@ const HEADS: [(&[u8], LineCause); 43] = [
 ];
 
 // Whole scripts, with their first bad line and its cause.
-const REFUSED: [(&[u8], u32, LineCause); 26] = [
+const REFUSED: [(&[u8], u32, LineCause); 28] = [
     (
         b"DB2ISO 1\nCONNECT A\nBEGIN\nA: SELECT * FROM T\nEND\n",
         4,
@@ -113,6 +115,16 @@ const REFUSED: [(&[u8], u32, LineCause); 26] = [
         b"DB2ISO 1\nTABLE T (N INTEGER)\nCONNECT A\nBEGIN\nA: DELETE FROM T\n",
         5,
         LineCause::Unbuilt,
+    ),
+    (
+        b"DB2ISO 1\nTABLE T (N VARCHAR(32))\nCONNECT A\nBEGIN\nA: INSERT INTO T VALUES ('a\rb')\n",
+        5,
+        LineCause::Syntax(26),
+    ),
+    (
+        b"DB2ISO 1\nTABLE T (N VARCHAR(32))\nCONNECT A\nBEGIN\nA: SELECT N FROM T WHERE N = 'a\rb' WITH UR\n",
+        5,
+        LineCause::Syntax(30),
     ),
     (b"", 1, LineCause::Syntax(1)),
     (b"DB2ISO 2\n", 1, LineCause::Syntax(8)),
@@ -261,7 +273,31 @@ fn refuses_tables(alloc: Global) -> bool {
     }
 }
 
-// Takes a line whether or not it is built; true where it has no fault.
+// Takes a line whether or not it is built, or else says why it is refused.
+fn comes_to(
+    alloc: Global,
+    progress: &mut Progress,
+    line: &[u8],
+    number: u32,
+) -> Result<Option<LineCause>, ScriptFault>
+    requires kept { IsKept progress.old }
+    requires short { length line.now < 2 ^ 32 }
+    ensures kept { OnOk result (IsKept progress.new) }
+{
+    let found = tokens_of(alloc, line)?;
+    match progress.said(alloc, line, found.as_slice()) {
+        Err(_) => Err(ScriptFault::BadLine(number, LineCause::Syntax(1))),
+        Ok(said) => {
+            if let Some(fault) = said.fault {
+                return Ok(Some(cause_of(fault)));
+            }
+            progress.advance(number, said.value)?;
+            Ok(None)
+        }
+    }
+}
+
+// Whether a line has no fault; it is taken then, whether or not it is built.
 fn takes(
     alloc: Global,
     progress: &mut Progress,
@@ -272,17 +308,8 @@ fn takes(
     requires short { length line.now < 2 ^ 32 }
     ensures kept { OnOk result (IsKept progress.new) }
 {
-    let found = tokens_of(alloc, line)?;
-    match progress.said(alloc, line, found.as_slice()) {
-        Err(_) => Err(ScriptFault::BadLine(number, LineCause::Syntax(1))),
-        Ok(said) => {
-            if said.fault.is_some() {
-                return Ok(false);
-            }
-            progress.advance(number, said.value)?;
-            Ok(true)
-        }
-    }
+    let cause = comes_to(alloc, progress, line, number)?;
+    Ok(cause.is_none())
 }
 
 // A script with a table T of one column ID.
@@ -358,17 +385,154 @@ fn index_last(alloc: Global) -> Result<bool, ScriptFault> {
     Ok(count == 65535 && taken && !repeated)
 }
 
-fn takes_keys(alloc: Global) -> bool {
-    match index_first(alloc) {
-        Ok(taken) => taken,
+fn connect_line(number: u32) -> [u8; 11]
+    ensures { length result ≡ 11 }
+{
+    let mut line = *b"CONNECT C00";
+    line[9] = digit(number / 10);
+    line[10] = digit(number);
+    line
+}
+
+fn table_line(number: u32) -> [u8; 30]
+    ensures { length result ≡ 30 }
+{
+    let mut line = *b"TABLE T0 (ID INTEGER NOT NULL)";
+    line[7] = digit(number);
+    line
+}
+
+// An index on the table with the other number.
+fn index_line(number: u32, table: u32) -> [u8; 20]
+    ensures { length result ≡ 20 }
+{
+    let mut line = *b"INDEX I00 ON T0 (ID)";
+    line[7] = digit(number / 10);
+    line[8] = digit(number);
+    line[14] = digit(table);
+    line
+}
+
+// How many connections are taken of so many that are offered.
+fn connections_taken(
+    alloc: Global,
+    progress: &mut Progress,
+    offered: u32,
+) -> Result<u32, ScriptFault>
+    requires kept { IsKept progress.old }
+    ensures kept { OnOk result (IsKept progress.new) }
+{
+    for number in 0..offered {
+        if !takes(alloc, progress, &connect_line(number), 2)? {
+            return Ok(number);
+        }
+    }
+    Ok(offered)
+}
+
+fn connection_33(alloc: Global) -> Result<bool, ScriptFault> {
+    let mut progress = with_table(alloc)?;
+    let count = connections_taken(alloc, &mut progress, 32)?;
+    let cause = comes_to(alloc, &mut progress, &connect_line(32), 35)?;
+    Ok(count == 32 && cause == Some(LineCause::Limit(1)))
+}
+
+// How many tables are taken of so many that are offered.
+fn tables_taken(alloc: Global, progress: &mut Progress, offered: u32) -> Result<u32, ScriptFault>
+    requires kept { IsKept progress.old }
+    ensures kept { OnOk result (IsKept progress.new) }
+{
+    for number in 0..offered {
+        if !takes(alloc, progress, &table_line(number), 2)? {
+            return Ok(number);
+        }
+    }
+    Ok(offered)
+}
+
+// How many indexes are taken, four on each table, of so many that are offered.
+fn indexes_taken(alloc: Global, progress: &mut Progress, offered: u32) -> Result<u32, ScriptFault>
+    requires kept { IsKept progress.old }
+    ensures kept { OnOk result (IsKept progress.new) }
+{
+    for number in 0..offered {
+        if !takes(alloc, progress, &index_line(number, number / 4), 3)? {
+            return Ok(number);
+        }
+    }
+    Ok(offered)
+}
+
+fn index_33(alloc: Global) -> Result<bool, ScriptFault> {
+    let mut progress = with_table(alloc)?;
+    let tables = tables_taken(alloc, &mut progress, 9)?;
+    let indexes = indexes_taken(alloc, &mut progress, 32)?;
+    let cause = comes_to(alloc, &mut progress, &index_line(32, 8), 44)?;
+    Ok(tables == 9 && indexes == 32 && cause == Some(LineCause::Limit(1)))
+}
+
+fn index_5_of_a_table(alloc: Global) -> Result<bool, ScriptFault> {
+    let mut progress = with_table(alloc)?;
+    let tables = tables_taken(alloc, &mut progress, 2)?;
+    let indexes = indexes_taken(alloc, &mut progress, 4)?;
+    let cause = comes_to(alloc, &mut progress, &index_line(4, 0), 9)?;
+    let other = takes(alloc, &mut progress, &index_line(4, 1), 10)?;
+    Ok(tables == 2 && indexes == 4 && cause == Some(LineCause::Limit(1)) && other)
+}
+
+// Settings at their bounds and past them, with what they are refused for.
+const SETTINGS: [(&[u8], Option<LineCause>); 8] = [
+    (b"CONFIG WINDOW 0", Some(LineCause::Limit(15))),
+    (b"CONFIG WINDOW 1", None),
+    (b"CONFIG WINDOW 1000000", None),
+    (b"CONFIG WINDOW 1000001", Some(LineCause::Limit(15))),
+    (b"CONFIG LOGMAX 1", Some(LineCause::Limit(15))),
+    (b"CONFIG LOGMAX 2", None),
+    (b"CONFIG LOGMAX 1000000", None),
+    (b"CONFIG LOGMAX 1000001", Some(LineCause::Limit(15))),
+];
+
+fn setting_cause(alloc: Global, line: &[u8]) -> Result<Option<LineCause>, ScriptFault> {
+    let mut progress = with_table(alloc)?;
+    if line.len() > 100 {
+        return Err(ScriptFault::BadLine(3, LineCause::Syntax(1)));
+    }
+    comes_to(alloc, &mut progress, line, 3)
+}
+
+fn setting_comes_to(alloc: Global, line: &[u8], cause: Option<LineCause>) -> bool {
+    match setting_cause(alloc, line) {
+        Ok(found) => found == cause,
         Err(_) => false,
     }
 }
 
-fn takes_index(alloc: Global) -> bool {
-    match index_last(alloc) {
-        Ok(taken) => taken,
+fn holds(outcome: Result<bool, ScriptFault>) -> bool {
+    match outcome {
+        Ok(holds) => holds,
         Err(_) => false,
+    }
+}
+
+#[test]
+fn connection_33_is_refused_at_place_1(rt: HostRuntime) {
+    assert!(rt; holds(connection_33(rt.alloc())));
+}
+
+#[test]
+fn index_33_is_refused_at_place_1(rt: HostRuntime) {
+    assert!(rt; holds(index_33(rt.alloc())));
+}
+
+#[test]
+fn index_5_of_a_table_is_refused_at_place_1(rt: HostRuntime) {
+    assert!(rt; holds(index_5_of_a_table(rt.alloc())));
+}
+
+#[test]
+fn settings_have_bounds(rt: HostRuntime) {
+    for (line, cause) in SETTINGS {
+        assert!(rt; setting_comes_to(rt.alloc(), line, cause), "{line:?}");
     }
 }
 
@@ -379,12 +543,12 @@ fn a_table_takes_65536_rows(rt: HostRuntime) {
 
 #[test]
 fn a_unique_index_takes_65536_keys(rt: HostRuntime) {
-    assert!(rt; takes_keys(rt.alloc()));
+    assert!(rt; holds(index_first(rt.alloc())));
 }
 
 #[test]
 fn a_unique_index_behind_65535_rows_is_taken(rt: HostRuntime) {
-    assert!(rt; takes_index(rt.alloc()));
+    assert!(rt; holds(index_last(rt.alloc())));
 }
 
 #[test]

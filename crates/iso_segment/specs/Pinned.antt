@@ -18,6 +18,6 @@ item_of p n = if nat_lt n p.first then None else slice_get p.items (n - p.first)
 abbrev pub stretch : {T : Type 0} → List T → ℕ → ℕ → Pinned T
 stretch items first last = record { first = first; items = take (last + 1 - first) (drop first items) }
 
--- a store has at most 2^32 - 1 items, whatever memory it has
-abbrev pub spare_of : ℕ → ℕ → ℕ
-spare_of capacity len = min capacity 4294967295 - len
+-- the room of an open part whose first item has the number `next`: a store has at most 2^32 - 1 items, whatever memory it has
+abbrev pub spare_of : ℕ → ℕ → ℕ → ℕ
+spare_of capacity next len = min capacity (4294967295 - next) - len

@@ -1,20 +1,31 @@
+//! Why a text is refused.
+
 use iso_types::Memory;
+use thiserror::Error;
 
 /// Why a text was not read as a statement. A place counts the text's bytes from 1.
-#[derive(Clone, Copy, PartialEq, Eq, Debug)]
+#[derive(Clone, Copy, PartialEq, Eq, Debug, Error)]
 pub enum SqlFault {
     /// The first token with which the text begins no statement; behind the last token, the text's length plus 1.
+    #[error("SYNTAX AT {0}")]
     Syntax(u32),
     /// A name that isn't declared.
+    #[error("UNKNOWN AT {0}")]
     Unknown(u32),
     /// A value or a column that does not fit.
+    #[error("TYPE AT {0}")]
     TypeFault(u32),
     /// A column that is listed twice.
+    #[error("DUPLICATE AT {0}")]
     Duplicate(u32),
     /// A name, a literal, a parenthesis or a comparison past its limit.
+    #[error("LIMIT AT {0}")]
     Limit(u32),
     /// A statement that this stage of the project does not run.
+    #[error("UNBUILT AT 1")]
     Unbuilt,
+    /// Want of memory.
+    #[error("want of memory")]
     Memory,
 }
 

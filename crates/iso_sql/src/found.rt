@@ -39,6 +39,7 @@ fn one_found(
     })
 }
 
+/// The place of a column; 0 where it names none, which is a fault. No memory.
 pub fn place_in(place: Option<u8>) -> u8
     ensures { result ≡ place_in place }
 {

@@ -16,9 +16,10 @@ mod statement;
 mod told;
 
 pub use fault::SqlFault;
+pub use found::place_in;
 pub use read::{exactly_one_answer, is_built, read_statement};
 pub use reader::take_statement;
-pub use rows::{placed_row, stored_fault, stored_row, stored_value, stores};
+pub use rows::{is_null, placed_row, stored_fault, stored_row, stored_value, stores};
 pub use scope::{Scope, gives, name_of, scope_of, table_of, table_place};
 pub use statement::{Assignment, Condition, Expr, Items2, Op, Sets, Statement};
 pub use told::told_faults_are_least;

@@ -38,7 +38,8 @@ fn fits_kind(kind: ColumnKind, value: &Value) -> bool
     }
 }
 
-fn is_null(value: &Value) -> bool
+/// Whether the value is NULL. Db2 LUW, 'NULL values'. No memory.
+pub fn is_null(value: &Value) -> bool
     ensures { result ≡ typing.is_null value.now }
 {
     matches!(value, Value::Null)

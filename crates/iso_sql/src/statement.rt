@@ -1,3 +1,5 @@
+//! Statements, as they are read.
+
 use iso_modes::Mode;
 use iso_types::{Isolation, Items, Row, TableId, Text, Value};
 use sqlite_items::Boxed;

@@ -99,7 +99,7 @@ const FORMS: [(&[u8], Option<SqlFault>); 22] = [
     ),
 ];
 
-const BROKEN: [(&[u8], Option<SqlFault>); 9] = [
+const BROKEN: [(&[u8], Option<SqlFault>); 15] = [
     (b"", Some(SqlFault::Syntax(1))),
     (b"   ", Some(SqlFault::Syntax(4))),
     (b"COMMIT X", Some(SqlFault::Syntax(8))),
@@ -112,6 +112,28 @@ const BROKEN: [(&[u8], Option<SqlFault>); 9] = [
     ),
     (b"SET LOCK TIMEOUT WAIT", Some(SqlFault::Syntax(5))),
     (b"DELETE FROM T WHERE (V = 1", Some(SqlFault::Syntax(27))),
+    // A text ends at no CR and no LF: it is unfinished, at its opening quote.
+    (
+        b"INSERT INTO T VALUES (1, 2, 'A\rB', NULL)",
+        Some(SqlFault::Syntax(29)),
+    ),
+    (
+        b"INSERT INTO T VALUES (1, 2, 'A\nB', NULL)",
+        Some(SqlFault::Syntax(29)),
+    ),
+    (
+        b"SELECT * FROM T WHERE S = 'A\rB' WITH UR",
+        Some(SqlFault::Syntax(27)),
+    ),
+    (
+        b"SELECT * FROM T WHERE S = 'A\nB' WITH UR",
+        Some(SqlFault::Syntax(27)),
+    ),
+    (b"UPDATE T SET S = 'A''\r'", Some(SqlFault::Syntax(18))),
+    (
+        b"SELECT * FROM T WHERE S = 'A'\r WITH UR",
+        Some(SqlFault::Syntax(30)),
+    ),
 ];
 
 const FAULTY: [(&[u8], Option<SqlFault>); 26] = [

@@ -1,61 +1,51 @@
 -- The first parts stand for the empty history.
-use Rattle.std.proofs.Common.{◌≡◌, ◌<◌, ◌≤◌, ◌+◌, ℕ, zero, suc, Bool, true, false, List, [], ◌∷◌, ◌++◌, length, map, refl, ap, ◌∙◌, Some, Option, filter, take, get_or, if◌then◌else◌, ◌&&◌, nat_lt, subst, arith}
-use Rattle.std.specs.Prelude.{cond, slice_index_or}
-use Rattle.std.specs.List.{list_all, range_with_len}
-use Rattle.std.proofs.lemmas.Bool.{eqb-true}
-use Rattle.std.proofs.lemmas.Bool.Decides.{nat_tests}
-use Rattle.std.proofs.lemmas.List.{get_or_past, length-map, map-append}
+use Rattle.std.proofs.Common.{◌≡◌, ◌≤◌, ◌<◌, ◌+◌, ◌*◌, ℕ, zero, suc, Bool, true, false, List, [], ◌∷◌, ◌++◌, length, map, refl, ap, sym, ◌∙◌, Some, None, Option, filter, take, get_or, if◌then◌else◌, ◌&&◌, arith}
+use Rattle.std.specs.Prelude.{cond, slice_get, slice_index_or, replicate}
+use Rattle.std.specs.Option.{option_map_or}
+use Rattle.std.proofs.lemmas.List.{length-map, map-append, length-replicate}
 use Rattle.std.proofs.lemmas.List.Elements.{filter_more}
-use Rattle.std.proofs.lemmas.List.FromFn.{get_or-map-range_with_len, length-map-range_with_len}
-use Rattle.iso_types.specs.Head.{lock_share, lock_slots, row_fits, rows_of, tables as tables_of}
+use Rattle.iso_chain.proofs.Firsts.{first-stands as chain-stands}
+use Rattle.iso_chain.specs.Views.{bare, chained}
+use Rattle.iso_key.specs.Pages.{entries}
+use Rattle.iso_log.specs.Journal.{Journal}
+use Rattle.iso_record.specs.declared.record.Record.{Record}
+use Rattle.iso_table.specs.Slots.{new_slot}
+use Rattle.iso_table.specs.declared.slot.Slot.{Slot}
+use Rattle.iso_uow.specs.Book.{Book}
+use Rattle.iso_uow.specs.declared.units.Work.{Work}
+use Rattle.iso_types.specs.Filled.{Filled}
+use Rattle.iso_types.specs.Head.{lock_share, lock_slots, rows_of, tables as tables_of}
 use Rattle.iso_types.specs.Ids.{table_eq}
 use Rattle.iso_types.specs.declared.desk.Desk.{Desk}
 use Rattle.iso_types.specs.declared.desk.Phase.TheVariants.{Idle}
 use Rattle.iso_types.specs.declared.head.ConnDef.{ConnDef}
 use Rattle.iso_types.specs.declared.head.FirstRow.{FirstRow}
 use Rattle.iso_types.specs.declared.head.Head.{Head}
+use Rattle.iso_types.specs.declared.head.Isolation.TheVariants.{Cs}
+use Rattle.iso_types.specs.declared.value.Rid.{Rid}
 use Rattle.iso_types.specs.declared.value.TableId.{TableId}
 use Rattle.iso_types.specs.declared.value.Value.{Value}
+use Rattle.iso_history.proofs.limits.LogRoom.{debt-start}
+use Rattle.iso_history.proofs.limits.Room.{needs-start, reserves-start}
 use Rattle.iso_history.specs.After.{start, world, world_from}
+use Rattle.iso_history.specs.Entries.{first_entries}
 use Rattle.iso_history.specs.Legal.{Ground, GroundFrom}
+use Rattle.iso_history.specs.Reserves.{HasRoom}
 use Rattle.iso_history.specs.declared.entry.Entry.{Entry}
-use Rattle.iso_history.specs.Versions.{first_version, present}
 use Rattle.iso_locklist.specs.Places.{Ledger}
 use Rattle.iso_locklist.specs.declared.places.Place.{Place}
 use Rattle.iso_state.specs.Firsts.{first_content, first_desk, first_locks}
-use Rattle.iso_state.specs.Stands.{AreOf, RowsFit, Stands, no_desk}
-
--- a conjunction gives both
-pub first-of : (a b : Bool) → (a && b) ≡ true → a ≡ true
-first-of true b h = refl
-first-of false b h = h
-
-pub second-of : (a b : Bool) → (a && b) ≡ true → b ≡ true
-second-of true b h = h
-second-of false b h = absurd (cc)
+use Rattle.iso_state.specs.Stands.{AreOf, HasPlace, HeadFits, Stands, no_desk}
 
 -- the table with this number
 abbrev pub table_number : ℕ → TableId
 table_number k = record { 0 = k }
 
--- a slot of the head shows its row
-first-shows : (rows : List (List Value)) → map present (map first_version rows) ≡ map Some rows
-first-shows [] = refl
-first-shows (row ∷ rows) = ap (λ (l : List (Option (List Value))). Some row ∷ l) (first-shows rows)
-
--- and so in each table
-first-slots : (head : Head) (ts : List TableId)
-    → map (map present) (map (λ t. map first_version (rows_of head t)) ts) ≡ map (map Some) (map (rows_of head) ts)
-first-slots head [] = refl
-first-slots head (t ∷ ts) =
-    ap (λ (l : List (Option (List Value))). l ∷ map (map present) (map (λ u. map first_version (rows_of head u)) ts)) (first-shows (rows_of head t))
-    ∙ ap (λ (l : List (List (Option (List Value)))). map Some (rows_of head t) ∷ l) (first-slots head ts)
-
--- the rows of the tables with these numbers
-pub rows-of-numbers : (head : Head) (ks : List ℕ)
-    → map (λ k. rows_of head (table_number k)) ks ≡ map (rows_of head) (map (λ k. record { 0 = k }) ks)
-rows-of-numbers head [] = refl
-rows-of-numbers head (k ∷ ks) = ap (λ (l : List (List (List Value))). rows_of head (table_number k) ∷ l) (rows-of-numbers head ks)
+-- the slots of the tables with these numbers
+pub slots-of-numbers : (head : Head) (ks : List ℕ)
+    → map (λ k. map new_slot (rows_of head (table_number k))) ks ≡ map (λ t. map new_slot (rows_of head t)) (map (λ k. record { 0 = k }) ks)
+slots-of-numbers head [] = refl
+slots-of-numbers head (k ∷ ks) = ap (λ (l : List (List Slot)). map new_slot (rows_of head (table_number k)) ∷ l) (slots-of-numbers head ks)
 
 -- one more row of the head
 pub rows-more : (rows : List FirstRow) (t : TableId) (k : ℕ) (d : FirstRow) → k < length rows
@@ -70,79 +60,97 @@ rows-more rows t k d lt =
     go true = refl
     go false = refl
 
--- each first desk is idle
-all-idle : (ds : List ConnDef) (k : ℕ) → (slice_index_or (map first_desk ds) k no_desk).phase ≡ Idle
-all-idle [] k = refl
-all-idle (d ∷ ds) zero = refl
-all-idle (d ∷ ds) (suc k) = all-idle ds k
+-- what a first desk says
+record IsFirst (ds : List ConnDef) (k : ℕ) (d : Desk) : Type 0 where
+  pub phase : d.phase ≡ Idle
+  pub level : d.isolation ≡ option_map_or (λ x. x.isolation) (slice_get ds k) Cs
+  pub may_wait : d.may_wait ≡ true
+  pub doom : d.doom ≡ 0
+  pub start : d.start ≡ 0
+  pub claimed : d.claimed ≡ false
 
--- each may wait
-all-wait : (ds : List ConnDef) (k : ℕ) → (slice_index_or (map first_desk ds) k no_desk).may_wait ≡ true
-all-wait [] k = refl
-all-wait (d ∷ ds) zero = refl
-all-wait (d ∷ ds) (suc k) = all-wait ds k
-
--- and is not doomed
-none-doomed : (ds : List ConnDef) (k : ℕ) → (slice_index_or (map first_desk ds) k no_desk).doom ≡ 0
-none-doomed [] k = refl
-none-doomed (d ∷ ds) zero = refl
-none-doomed (d ∷ ds) (suc k) = none-doomed ds k
-
--- the head's rows of a table fit it
-first-fit : (head : Head) (t : TableId) (rows : List FirstRow) → list_all (λ f. row_fits head f.table f.row) rows ≡ true
-    → list_all (row_fits head t) (map (λ f. f.row) (filter (λ f. table_eq f.table t) rows)) ≡ true
-first-fit head t [] h = refl
-first-fit head t (f ∷ fs) h = go (table_eq f.table t) refl (first-fit head t fs (second-of (row_fits head f.table f.row) _ h))
-  where
-    place : ℕ → TableId
-    place x = record { 0 = x }
-
-    go : (b : Bool) → table_eq f.table t ≡ b → list_all (row_fits head t) (map (λ f. f.row) (filter (λ f. table_eq f.table t) fs)) ≡ true
-        → list_all (row_fits head t) (map (λ f. f.row) (filter (λ f. table_eq f.table t) (f ∷ fs))) ≡ true
-    go true e rest =
-        let is : f.table ≡ t = ap place (eqb-true f.table.0 t.0 e) in
-        let fits : row_fits head t f.row ≡ true = subst (λ (u : TableId). row_fits head u f.row ≡ true) is (first-of (row_fits head f.table f.row) _ h) in
-        rw e (rw (fits, rest) refl)
-    go false e rest = rw e rest
-
--- and so in all tables
-first-all-fit : (head : Head) → list_all (λ f. row_fits head f.table f.row) head.rows ≡ true → RowsFit head (map (rows_of head) (tables_of head))
-first-all-fit head h t = go (nat_lt t.0 (length head.tables)) refl
-  where
-    at-number : ℕ → List (List Value)
-    at-number k = rows_of head (table_number k)
-
-    go : (b : Bool) → nat_lt t.0 (length head.tables) ≡ b → list_all (row_fits head t) (get_or (map (rows_of head) (tables_of head)) t.0 []) ≡ true
-    go true e = rw (← rows-of-numbers head (range_with_len 0 (length head.tables)))
-        (rw (get_or-map-range_with_len at-number 0 (length head.tables) t.0 t.0 [] (grind (arith, nat_tests, e)) (omega arith)) (first-fit head t head.rows h))
-    go false e =
-        let long : length (map (rows_of head) (tables_of head)) ≡ length head.tables = length-map (tables_of head) (rows_of head) ∙ length-map-range_with_len _ 0 (length head.tables) in
-        rw (get_or_past (map (rows_of head) (tables_of head)) t.0 [] (grind (arith, nat_tests, e, long))) refl
+-- each first desk is its connection's
+first-desk : (ds : List ConnDef) (k : ℕ) → IsFirst ds k (slice_index_or (map first_desk ds) k no_desk)
+first-desk [] k = record { phase = refl; level = refl; may_wait = refl; doom = refl; start = refl; claimed = refl }
+first-desk (d ∷ ds) zero = record { phase = refl; level = refl; may_wait = refl; doom = refl; start = refl; claimed = refl }
+first-desk (d ∷ ds) (suc k) = let r = first-desk ds k in
+    record { phase = r.phase; level = r.level; may_wait = r.may_wait; doom = r.doom; start = r.start; claimed = r.claimed }
 
 first-parts : (head : Head) → AreOf (start head) (first_content head)
 first-parts head = record {
-  tables = first-slots head (tables_of head);
+  chain = chain-stands head;
+  entries = refl;
   locks = record { holds = λ n. refl; waits = λ n. refl };
-  desks = λ c lt. record { phase = all-idle head.conns c.0; may_wait = all-wait head.conns c.0; doom = none-doomed head.conns c.0 };
+  desks = λ c lt. let r = first-desk head.conns c.0 in
+      record { phase = r.phase; line = tt; isolation = r.level; may_wait = r.may_wait; doom = r.doom; start = r.start; claimed = r.claimed };
+  reserved = sym (reserves-start head);
 }
 
-pub first-stands : (head : Head) → length head.conns ≤ 32 → list_all (λ f. row_fits head f.table f.row) head.rows ≡ true → Stands (first_content head)
+pub first-stands : (head : Head) → HeadFits head → Stands (first_content head)
 unfolding world world_from Ground GroundFrom
-first-stands head few fit = record {
+first-stands head fits = record {
   parts = first-parts head;
-  few = few;
-  limits = record { share = refl; slots = refl; index_tables = refl };
   conns = length-map head.conns first_desk;
-  wide = length-map (tables_of head) (rows_of head) ∙ length-map-range_with_len _ 0 (length head.tables);
-  fit = first-all-fit head fit;
+  works = length-replicate (length head.conns) None;
+  limits = record { share = refl; slots = refl; index_tables = refl };
+  bounds = record { window = refl; logmax = refl };
+  fits = fits;
   ground = tt;
 }
 
+-- and there is room for what all connections and the dispatcher need
+first-room : (head : Head) (spare log_spare : ℕ) → length head.conns * 2 + 2 ≤ spare → HasRoom head (world head []) spare log_spare
+unfolding world world_from
+first-room head spare log_spare le = record {
+  for_needs = rw (needs-start head) le;
+  for_debt = let none = debt-start head in omega (arith, none);
+}
+
+pub first-place : (head : Head) (spare log_spare : ℕ) → HeadFits head → length head.conns * 2 + 2 ≤ spare → HasPlace (first_content head) spare log_spare
+first-place head spare log_spare fits le = record { stands = first-stands head fits; room = first-room head spare log_spare le }
+
+-- without an index there are no entries
+no-entries : (head : Head) → head.indexes ≡ [] → [] ≡ first_entries head
+no-entries head e = rw e refl
+
 -- the content, from what each part is
-pub first-is : (head copy : Head) (tables : List (List (List Value))) (locks : Ledger) (desks : List Desk) (entries : List Entry)
-    → copy ≡ head → tables ≡ map (rows_of head) (tables_of head) → locks ≡ first_locks head → desks ≡ map first_desk head.conns → entries ≡ []
-    → record { head = copy; tables = tables; locks = locks; desks = desks; history = entries } ≡ first_content head
-first-is head copy tables locks desks entries same none free idle empty = rw (same, none, free, idle, empty) refl
+pub first-is : (head copy : Head) (tables : List (Filled Slot)) (log : Journal) (units : Book) (indexes : List (List (List (Value × Rid)))) (locks : Ledger)
+    (desks : List Desk) (past : List Entry) (reserved : ℕ) → copy ≡ head → bare tables ≡ map (λ t. map new_slot (rows_of head t)) (tables_of head)
+    → log.records ≡ [] → log.window ≡ head.config.window → log.logmax ≡ head.config.logmax
+    → units.begun ≡ 0 → units.works ≡ replicate (length head.conns) None → indexes ≡ [] → head.indexes ≡ []
+    → locks ≡ first_locks head → desks ≡ map first_desk head.conns → past ≡ [] → reserved ≡ length head.conns * 2 + 2
+    → record {
+      head = copy;
+      chain = chained tables log units;
+      bounds = record { window = log.window; logmax = log.logmax };
+      entries = map entries indexes;
+      locks = locks;
+      desks = desks;
+      history = past;
+      reserved = reserved;
+    } ≡ first_content head
+first-is head copy tables log units indexes locks desks past reserved same slots none window logmax begun works bare_of plain free idle empty sum =
+    go copy (bare tables) log.records log.window log.logmax units.begun units.works indexes locks desks past reserved
+    same slots none window logmax begun works bare_of free idle empty sum
+  where
+    go : (copy : Head) (tables : List (List Slot)) (records : List Record) (window logmax begun : ℕ) (works : List (Option Work))
+        (indexes : List (List (List (Value × Rid)))) (locks : Ledger) (desks : List Desk) (past : List Entry) (reserved : ℕ)
+        → copy ≡ head → tables ≡ map (λ t. map new_slot (rows_of head t)) (tables_of head) → records ≡ [] → window ≡ head.config.window
+        → logmax ≡ head.config.logmax → begun ≡ 0 → works ≡ replicate (length head.conns) None → indexes ≡ [] → locks ≡ first_locks head
+        → desks ≡ map first_desk head.conns → past ≡ [] → reserved ≡ length head.conns * 2 + 2
+        → record {
+          head = copy;
+          chain = record { tables = tables; log = records; book = record { begun = begun; works = works } };
+          bounds = record { window = window; logmax = logmax };
+          entries = map entries indexes;
+          locks = locks;
+          desks = desks;
+          history = past;
+          reserved = reserved;
+        }
+        ≡ first_content head
+    go copy tables records window logmax begun works indexes locks desks past reserved a b c d e f g h i j k l =
+        rw (a, b, c, d, e, f, g, h, i, j, k, l) (ap (λ (es : List (List (Value × Rid))). record (first_content head) { entries = es }) (no-entries head plain))
 
 -- the lock list, from its fields
 pub locks-are : (head : Head) (l : Ledger) → l.places ≡ [] → l.share ≡ lock_share head.config → l.slots ≡ lock_slots head.config

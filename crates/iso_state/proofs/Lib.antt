@@ -1,12 +1,12 @@
 pub mod Phases
-pub mod Seats
-pub mod Shown
-pub mod Tables
+pub mod Desks
+pub mod Steps
+pub mod ByKind
+pub mod Commits
 pub mod FirstParts
 pub mod LockReads
 pub mod LockWrites
 pub mod Waits
-pub mod EndSteps
+pub mod Shuts
 pub mod News
-pub mod DispatcherSteps
 pub mod FactsAlong

@@ -34,13 +34,13 @@ waits-other hs x (y ∷ ys) d ne = go (is_held hs x.conn x.name && is_new_beside
     go true ih = rw ne refl
     go false ih = ap (λ (o : Option Wait). if conn_eq y.conn d then Some y else o) ih
 
-queues-by : (e c d v s : Bool) → phase_of e c d v s ≡ Running → phase_of e c d true s ≡ Phase.Waiting
+pub queues-by : (e c d v s : Bool) → phase_of e c d v s ≡ Running → phase_of e c d true s ≡ Phase.Waiting
 queues-by true c d v s h = cc
 queues-by false true d v s h = cc
 queues-by false false true v s h = cc
 queues-by false false false v s h = refl
 
-rolls-by : (e c d v s : Bool) → phase_of e c d v s ≡ Running → phase_of e c true v s ≡ Rolling
+pub rolls-by : (e c d v s : Bool) → phase_of e c d v s ≡ Running → phase_of e c true v s ≡ Rolling
 rolls-by true c d v s h = cc
 rolls-by false true d v s h = cc
 rolls-by false false d v s h = refl

@@ -1,10 +1,12 @@
 -- What the parts hold before the first entry.
-use Rattle.std.specs.Prelude.{true, false, [], map}
-use Rattle.iso_types.specs.Head.{lock_share, lock_slots, rows_of, tables}
+use Rattle.std.specs.Prelude.{true, false, [], ◌+◌, ◌*◌, length, map}
+use Rattle.iso_types.specs.Head.{lock_share, lock_slots}
 use Rattle.iso_types.specs.declared.desk.Desk.{Desk}
 use Rattle.iso_types.specs.declared.desk.Phase.TheVariants.{Idle}
 use Rattle.iso_types.specs.declared.head.ConnDef.{ConnDef}
 use Rattle.iso_types.specs.declared.head.Head.{Head}
+use Rattle.iso_chain.specs.Firsts.{first_chained}
+use Rattle.iso_history.specs.Entries.{first_entries}
 use Rattle.iso_locklist.specs.Places.{Ledger}
 use Rattle.iso_state.specs.Stands.{Content}
 
@@ -17,12 +19,15 @@ abbrev pub first_locks : Head → Ledger
 first_locks head =
     record { places = []; share = lock_share head.config; slots = lock_slots head.config; index_tables = map (λ d. d.table) head.indexes }
 
--- a slot for each row that the head gives a table, no lock, each connection at its first desk, and no entry
+-- a slot for each row that the head gives a table, no record, no lock, each connection at its first desk, and no entry
 abbrev pub first_content : Head → Content
 first_content head = record {
   head = head;
-  tables = map (rows_of head) (tables head);
+  chain = first_chained head;
+  bounds = record { window = head.config.window; logmax = head.config.logmax };
+  entries = first_entries head;
   locks = first_locks head;
   desks = map first_desk head.conns;
   history = [];
+  reserved = length head.conns * 2 + 2;
 }

@@ -1,38 +1,57 @@
 -- When parts stand for their history.
 use Rattle.std.specs.List.{list_all}
-use Rattle.std.specs.Prelude.{◌≡◌, ◌<◌, ◌≤◌, true, false, List, [], length, map, Some, slice_index_or, unwrap_or}
+use Rattle.std.specs.Prelude.{◌≡◌, ◌<◌, ◌≤◌, Bool, ℕ, true, false, List, [], length, map, nat_le, slice_index_or, unwrap_or, IfSome}
 use Rattle.iso_types.specs.Head.{lock_share, lock_slots, row_fits}
 use Rattle.iso_types.specs.declared.desk.Desk.{Desk}
 use Rattle.iso_types.specs.declared.desk.Phase.TheVariants.{Idle}
 use Rattle.iso_types.specs.declared.head.Head.{Head}
 use Rattle.iso_types.specs.declared.head.Isolation.TheVariants.{Cs}
 use Rattle.iso_types.specs.declared.value.Conn.{Conn}
-use Rattle.iso_types.specs.declared.value.TableId.{TableId}
+use Rattle.iso_types.specs.declared.value.Rid.{Rid}
 use Rattle.iso_types.specs.declared.value.Value.{Value}
-use Rattle.iso_queue.specs.Locks.{Hold}
-use Rattle.iso_queue.specs.Queues.{Wait}
-use Rattle.iso_locklist.specs.Lists.{HoldsAlike, WaitsAlike, holds_in, waits_in}
+use Rattle.iso_chain.specs.Stands.{AreChained, Chained}
+use Rattle.iso_chain.specs.Views.{chained}
+use Rattle.iso_key.specs.Pages.{entries}
+use Rattle.iso_locklist.specs.Holding.{LocksAre}
 use Rattle.iso_locklist.specs.Places.{Ledger}
-use Rattle.iso_locklist.specs.declared.places.Place.{Place}
 use Rattle.iso_history.specs.declared.entry.Entry.{Entry}
 use Rattle.iso_history.specs.After.{world}
 use Rattle.iso_history.specs.Legal.{Ground}
 use Rattle.iso_history.specs.Phases.{phase}
-use Rattle.iso_history.specs.Versions.{present}
-use Rattle.iso_history.specs.World.{World}
+use Rattle.iso_history.specs.Reserves.{HasRoom}
+use Rattle.iso_history.specs.Stops.{reserves}
+use Rattle.iso_history.specs.World.{Last, World}
+use Rattle.iso_history.specs.World.Last.{Claimed}
 use Rattle.iso_state.specs.declared.parts.Parts.{Parts}
 
--- what the parts hold, without the room that they have
+-- what the log may have: its window and its limit
+pub record Bounds : Type 0 where
+  pub window : ℕ
+  pub logmax : ℕ
+
+-- what the parts hold, without the room that they have; `reserved` is the kept sum of all reserves
 pub record Content : Type 0 where
   pub head : Head
-  pub tables : List (List (List Value))
+  pub chain : Chained
+  pub bounds : Bounds
+  pub entries : List (List (Value × Rid))
   pub locks : Ledger
   pub desks : List Desk
   pub history : List Entry
+  pub reserved : ℕ
 
 -- what the parts hold
 abbrev pub content_of : Parts → Content
-content_of p = record { head = p.head; tables = p.tables; locks = p.locks; desks = p.desks; history = p.history.items }
+content_of p = record {
+  head = p.head;
+  chain = chained p.tables p.log p.units;
+  bounds = record { window = p.log.window; logmax = p.log.logmax };
+  entries = map entries p.indexes;
+  locks = p.locks;
+  desks = p.desks;
+  history = p.history.items;
+  reserved = p.reserved;
+}
 
 -- what stands for a desk that is not there
 abbrev pub no_desk : Desk
@@ -42,24 +61,25 @@ no_desk = record { phase = Idle; line = 0; isolation = Cs; may_wait = true; doom
 abbrev pub desk_at : List Desk → Conn → Desk
 desk_at desks c = slice_index_or desks c.0 no_desk
 
--- the desk has its connection's phase, whether its requests may queue, and for which reason it has to roll back
+-- the last own entry is a claim
+abbrev pub is_claimed : Last → Bool
+is_claimed Claimed = true
+is_claimed _ = false
+
+-- the desk has its connection's phase, the line of its open statement, its level, whether its requests may queue, the reason
+-- for which it has to roll back or 0, the number of records at its last Dispatch, and whether its last own entry is a claim
 pub record IsDeskOf (w : World) (c : Conn) (d : Desk) : Type 0 where
   pub phase : d.phase ≡ phase w c
+  pub line : IfSome (w.line c) (λ n. d.line ≡ n)
+  pub isolation : d.isolation ≡ (w.setting c).level
   pub may_wait : d.may_wait ≡ (w.setting c).may_wait
   pub doom : d.doom ≡ unwrap_or (w.doom c) 0
+  pub start : d.start ≡ w.floor c
+  pub claimed : d.claimed ≡ is_claimed (w.last c)
 
 -- each desk is its connection's
 abbrev pub DesksStand : List Desk → World → Type 0
 DesksStand desks w = (c : Conn) → c.0 < length desks → IsDeskOf w c (desk_at desks c)
-
--- each row fits its table
-abbrev pub RowsFit : Head → List (List (List Value)) → Type 0
-RowsFit head tables = (t : TableId) → list_all (row_fits head t) (slice_index_or tables t.0 []) ≡ true
-
--- the lock list has of each name these holds and these waits, in the same order
-pub record LocksAre (hs : List Hold) (xs : List Wait) (places : List Place) : Type 0 where
-  pub holds : HoldsAlike (holds_in places) hs
-  pub waits : WaitsAlike (waits_in places) xs
 
 -- its limits, and the tables of the indexes, are the head's
 pub record IsLimitedBy (head : Head) (l : Ledger) : Type 0 where
@@ -67,25 +87,47 @@ pub record IsLimitedBy (head : Head) (l : Ledger) : Type 0 where
   pub slots : l.slots ≡ lock_slots head.config
   pub index_tables : l.index_tables ≡ map (λ d. d.table) head.indexes
 
--- the content is that of this world: each slot shows its present row
+-- the window and the limit of the log are the head's
+pub record IsBoundBy (head : Head) (b : Bounds) : Type 0 where
+  pub window : b.window ≡ head.config.window
+  pub logmax : b.logmax ≡ head.config.logmax
+
+-- what the steps ask of a head; a script that is read has it
+pub record HeadFits (head : Head) : Type 0 where
+  pub tables : length head.tables ≤ 16
+  pub columns : list_all (λ d. nat_le (length d.columns) 8) head.tables ≡ true
+  pub conns : length head.conns ≤ 32
+  pub rows : list_all (λ f. row_fits head f.table f.row) head.rows ≡ true
+  pub locklist : head.config.locklist ≤ 4096
+  pub maxlocks : head.config.maxlocks ≤ 100
+
+-- the content is that of this world
 pub record AreOf (w : World) (p : Content) : Type 0 where
-  pub tables : map (map present) w.tables ≡ map (map Some) p.tables
-  pub locks : LocksAre w.holds w.waits p.locks.places
+  pub chain : AreChained w p.chain
+  pub entries : p.entries ≡ w.entries
+  pub locks : LocksAre w.holds w.waits p.locks
   pub desks : DesksStand p.desks w
+  pub reserved : p.reserved ≡ reserves p.head w
 
 -- the content stands for its history
 pub record Stands (p : Content) : Type 0 where
   pub parts : AreOf (world p.head p.history) p
   pub conns : length p.desks ≡ length p.head.conns
-  pub few : length p.head.conns ≤ 32
-  pub wide : length p.tables ≡ length p.head.tables
-  pub fit : RowsFit p.head p.tables
+  pub works : length p.chain.book.works ≡ length p.head.conns
   pub limits : IsLimitedBy p.head p.locks
+  pub bounds : IsBoundBy p.head p.bounds
+  pub fits : HeadFits p.head
   pub ground : Ground p.head p.history
 
--- the parts stand for their history
+-- besides, history and log have room for all that the open units owe
+pub record HasPlace (p : Content) (spare log_spare : ℕ) : Type 0 where
+  pub stands : Stands p
+  pub open stands use *
+  pub room : HasRoom p.head (world p.head p.history) spare log_spare
+
+-- the parts stand for their history, with that room
 abbrev pub StandsFor : Parts → Type 0
-StandsFor p = Stands (content_of p)
+StandsFor p = HasPlace (content_of p) p.history.spare p.log.spare
 
 -- the world of the parts' history
 abbrev pub world_of : Parts → World

@@ -1,5 +1,5 @@
 ghost use Rattle.std.specs.Option.{option_map, option_map_or};
-ghost use Rattle.std.specs.Prelude.{◌≡◌, ◌<◌, ◌&&◌, ◌||◌, not, length, false, true, if◌then◌else◌, None, Some, OnOk, OnErr};
+ghost use Rattle.std.specs.Prelude.{◌≡◌, ◌≢◌, ◌<◌, ◌&&◌, ◌||◌, not, length, false, true, if◌then◌else◌, None, Some, Err, OnOk, OnErr};
 ghost use Rattle.iso_modes.specs.Modes.{mode_eq};
 ghost use Rattle.iso_queue.specs.Locks.{held, hold_on, is_covered, is_held, placed, settled, target as target_in, without_briefs};
 ghost use Rattle.iso_modes.specs.Terms as terms;
@@ -13,14 +13,16 @@ ghost use Rattle.iso_history.specs.Requests.Outcome.{Gives};
 ghost use Rattle.iso_history.specs.declared.entry.Got.{Got as Gained};
 ghost use Rattle.iso_state.specs.Changes.{relocked};
 ghost use Rattle.iso_state.specs.Judged.{judged_as};
-ghost use Rattle.iso_state.specs.Stands.{LocksAre, StandsFor, content_of, world_of};
+ghost use Rattle.iso_locklist.specs.Holding.{LocksAre};
+ghost use Rattle.iso_state.specs.Stands.{StandsFor, content_of, world_of};
+ghost use Rattle.iso_state.specs.Steps.{KeepsRoom};
 
 use crate::changes::desk_of;
 use crate::parts::Parts;
 use iso_locklist::Room;
 use iso_modes::{Mode, Term, joined};
 use iso_queue::Hold;
-use iso_types::{Conn, Memory, Name};
+use iso_types::{Conn, Name, StepFault};
 
 /// What a request comes to: it is granted, it queues for the mode that it will hold, it times out, or its need is at a
 /// limit.
@@ -37,7 +39,6 @@ pub fn hold(parts: &Parts, conn: Conn, name: &Name) -> Option<Hold>
     requires stands { StandsFor parts.now }
     ensures { option_map (named_hold name.now) result ≡ hold_on (world_of parts.now).holds conn name.now }
 {
-    parts.locks.lists_hold_each_name(conn, *name);
     parts.locks.held(conn, *name)
 }
 
@@ -46,9 +47,6 @@ pub fn covered(parts: &Parts, conn: Conn, name: &Name, mode: Mode) -> bool
     requires stands { StandsFor parts.now }
     ensures { result ≡ is_covered parts.now.head (world_of parts.now).holds conn name.now mode }
 {
-    parts
-        .locks
-        .lists_cover_each_request(&parts.head, conn, *name, mode);
     parts.locks.covered(conn, *name, mode)
 }
 
@@ -99,7 +97,6 @@ pub fn is_limited(parts: &Parts, conn: Conn, more: u32) -> bool
     requires conn { conn.0 < length parts.now.head.conns }
     ensures { result ≡ is_at_limit parts.now.head (world_of parts.now) conn more }
 {
-    parts.locks.lists_count_taken(&parts.head, conn);
     match parts.locks.room(conn, more) {
         Room::Free => false,
         Room::AtShare => true,
@@ -108,7 +105,7 @@ pub fn is_limited(parts: &Parts, conn: Conn, more: u32) -> bool
 }
 
 /// Whether a request that is not covered would be granted, as far as the queue says.
-fn grants(parts: &Parts, conn: Conn, name: &Name, mode: Mode) -> bool
+pub fn grants(parts: &Parts, conn: Conn, name: &Name, mode: Mode) -> bool
     requires stands { StandsFor parts.now }
     requires idle { is_waiting (world_of parts.now).waits conn ≡ false }
     ensures { result ≡ (option_map_or (mode_eq (target_in (world_of parts.now).holds conn name.now mode)) (held (world_of parts.now).holds conn name.now) false || not (would_wait (world_of parts.now).holds (world_of parts.now).waits (asking (world_of parts.now) conn name.now mode))) }
@@ -141,7 +138,6 @@ pub fn can_claim(parts: &Parts, conn: Conn) -> bool
     requires stands { StandsFor parts.now }
     ensures { result ≡ is_grantable (world_of parts.now).holds (world_of parts.now).waits conn }
 {
-    parts.locks.lists_tell_each_wait(conn);
     parts.locks.can_claim(conn)
 }
 
@@ -152,23 +148,25 @@ pub fn place(
     name: &Name,
     mode: Mode,
     term: Term,
-) -> Result<(), Memory>
+) -> Result<(), StepFault>
     requires stands { StandsFor parts.old }
     requires conn { conn.0 < length parts.old.head.conns }
     requires idle { is_waiting (world_of parts.old).waits conn ≡ false }
     requires granted { request parts.old.head (world_of parts.old) conn name.now mode ≡ Gives Gained.Granted }
     ensures content { content_of parts.new ≡ relocked (content_of parts.old) parts.new.locks }
-    ensures history { parts.new.history ≡ parts.old.history }
-    ensures ok { OnOk result (LocksAre (placed parts.old.head (world_of parts.old).holds conn (asked_for name.now mode term)) (world_of parts.old).waits parts.new.locks.places) }
+    ensures room { KeepsRoom parts.old parts.new }
+    ensures ok { OnOk result (LocksAre (placed parts.old.head (world_of parts.old).holds conn (asked_for name.now mode term)) (world_of parts.old).waits parts.new.locks) }
     ensures limits { IsSameLimits parts.new.locks parts.old.locks }
     ensures err { OnErr result (content_of parts.new ≡ content_of parts.old) }
+    ensures stands { OnErr result (StandsFor parts.new) }
+    ensures fault { result ≢ Err StepFault.HistoryFull }
 {
     if covered(parts, conn, name, mode) {
         return Ok(());
     }
     match parts.locks.request(conn, *name, mode, term) {
         Ok(_) => Ok(()),
-        Err(_) => Err(Memory),
+        Err(_) => Err(StepFault::Memory),
     }
 }
 
@@ -180,34 +178,38 @@ pub fn enqueue(
     mode: Mode,
     term: Term,
     to: Mode,
-) -> Result<(), Memory>
+) -> Result<(), StepFault>
     requires stands { StandsFor parts.old }
     requires conn { conn.0 < length parts.old.head.conns }
     requires idle { is_waiting (world_of parts.old).waits conn ≡ false }
     requires queues { request parts.old.head (world_of parts.old) conn name.now mode ≡ Gives (Gained.Queued to) }
     ensures content { content_of parts.new ≡ relocked (content_of parts.old) parts.new.locks }
-    ensures history { parts.new.history ≡ parts.old.history }
-    ensures ok { OnOk result (LocksAre (world_of parts.old).holds (queued (world_of parts.old).holds (record { name = name.now; conn = conn; target = to; term = term }) (world_of parts.old).waits) parts.new.locks.places) }
+    ensures room { KeepsRoom parts.old parts.new }
+    ensures ok { OnOk result (LocksAre (world_of parts.old).holds (queued (world_of parts.old).holds (record { name = name.now; conn = conn; target = to; term = term }) (world_of parts.old).waits) parts.new.locks) }
     ensures limits { IsSameLimits parts.new.locks parts.old.locks }
     ensures err { OnErr result (content_of parts.new ≡ content_of parts.old) }
+    ensures stands { OnErr result (StandsFor parts.new) }
+    ensures fault { result ≢ Err StepFault.HistoryFull }
 {
     match parts.locks.request(conn, *name, mode, term) {
         Ok(_) => Ok(()),
-        Err(_) => Err(Memory),
+        Err(_) => Err(StepFault::Memory),
     }
 }
 
 /// Places a request that is granted, as one that is kept, and settles the holds. After `Memory` all is as before.
-pub fn take_kept(parts: &mut Parts, conn: Conn, name: &Name, mode: Mode) -> Result<(), Memory>
+pub fn take_kept(parts: &mut Parts, conn: Conn, name: &Name, mode: Mode) -> Result<(), StepFault>
     requires stands { StandsFor parts.old }
     requires conn { conn.0 < length parts.old.head.conns }
     requires idle { is_waiting (world_of parts.old).waits conn ≡ false }
     requires granted { request parts.old.head (world_of parts.old) conn name.now mode ≡ Gives Gained.Granted }
     ensures content { content_of parts.new ≡ relocked (content_of parts.old) parts.new.locks }
-    ensures history { parts.new.history ≡ parts.old.history }
-    ensures ok { OnOk result (LocksAre (without_briefs (placed parts.old.head (world_of parts.old).holds conn (asked_for name.now mode Terms.Kept)) conn (settled conn None (placed parts.old.head (world_of parts.old).holds conn (asked_for name.now mode Terms.Kept)))) (world_of parts.old).waits parts.new.locks.places) }
+    ensures room { KeepsRoom parts.old parts.new }
+    ensures ok { OnOk result (LocksAre (without_briefs (placed parts.old.head (world_of parts.old).holds conn (asked_for name.now mode Terms.Kept)) conn (settled conn None (placed parts.old.head (world_of parts.old).holds conn (asked_for name.now mode Terms.Kept)))) (world_of parts.old).waits parts.new.locks) }
     ensures limits { IsSameLimits parts.new.locks parts.old.locks }
     ensures err { OnErr result (content_of parts.new ≡ content_of parts.old) }
+    ensures stands { OnErr result (StandsFor parts.new) }
+    ensures fault { result ≢ Err StepFault.HistoryFull }
 {
     place(parts, conn, name, mode, Term::Kept)?;
     parts.locks.settle(conn, None);
@@ -221,16 +223,18 @@ fn take_spared(
     name: &Name,
     mode: Mode,
     term: Term,
-) -> Result<(), Memory>
+) -> Result<(), StepFault>
     requires stands { StandsFor parts.old }
     requires conn { conn.0 < length parts.old.head.conns }
     requires idle { is_waiting (world_of parts.old).waits conn ≡ false }
     requires granted { request parts.old.head (world_of parts.old) conn name.now mode ≡ Gives Gained.Granted }
     ensures content { content_of parts.new ≡ relocked (content_of parts.old) parts.new.locks }
-    ensures history { parts.new.history ≡ parts.old.history }
-    ensures ok { OnOk result (LocksAre (without_briefs (placed parts.old.head (world_of parts.old).holds conn (asked_for name.now mode term)) conn (settled conn (Some name.now) (placed parts.old.head (world_of parts.old).holds conn (asked_for name.now mode term)))) (world_of parts.old).waits parts.new.locks.places) }
+    ensures room { KeepsRoom parts.old parts.new }
+    ensures ok { OnOk result (LocksAre (without_briefs (placed parts.old.head (world_of parts.old).holds conn (asked_for name.now mode term)) conn (settled conn (Some name.now) (placed parts.old.head (world_of parts.old).holds conn (asked_for name.now mode term)))) (world_of parts.old).waits parts.new.locks) }
     ensures limits { IsSameLimits parts.new.locks parts.old.locks }
     ensures err { OnErr result (content_of parts.new ≡ content_of parts.old) }
+    ensures stands { OnErr result (StandsFor parts.new) }
+    ensures fault { result ≢ Err StepFault.HistoryFull }
 {
     place(parts, conn, name, mode, term)?;
     parts.locks.settle(conn, Some(*name));
@@ -271,17 +275,19 @@ pub fn take(
     mode: Mode,
     term: Term,
     spared: bool,
-) -> Result<(), Memory>
+) -> Result<(), StepFault>
     requires stands { StandsFor parts.old }
     requires conn { conn.0 < length parts.old.head.conns }
     requires idle { is_waiting (world_of parts.old).waits conn ≡ false }
     requires granted { request parts.old.head (world_of parts.old) conn name.now mode ≡ Gives Gained.Granted }
     requires long { terms.is_brief term ≡ false }
     ensures content { content_of parts.new ≡ relocked (content_of parts.old) parts.new.locks }
-    ensures history { parts.new.history ≡ parts.old.history }
-    ensures ok { OnOk result (LocksAre (without_briefs (world_of parts.old).holds conn (placed parts.old.head (settled conn (if spared then Some name.now else None) (world_of parts.old).holds) conn (asked_for name.now mode term))) (world_of parts.old).waits parts.new.locks.places) }
+    ensures room { KeepsRoom parts.old parts.new }
+    ensures ok { OnOk result (LocksAre (without_briefs (world_of parts.old).holds conn (placed parts.old.head (settled conn (if spared then Some name.now else None) (world_of parts.old).holds) conn (asked_for name.now mode term))) (world_of parts.old).waits parts.new.locks) }
     ensures limits { IsSameLimits parts.new.locks parts.old.locks }
     ensures err { OnErr result (content_of parts.new ≡ content_of parts.old) }
+    ensures stands { OnErr result (StandsFor parts.new) }
+    ensures fault { result ≢ Err StepFault.HistoryFull }
 {
     let becomes_kept = becomes_kept(parts, conn, name, spared);
     if becomes_kept {

@@ -1,48 +1,61 @@
-ghost use Rattle.std.specs.List.{list_all};
-ghost use Rattle.std.specs.Prelude.{◌≡◌, ◌≤◌, true, [], length, map, IfOk};
-ghost use Rattle.iso_types.specs.Head.{row_fits, rows_of, tables as tables_of};
+ghost use Rattle.std.specs.Prelude.{◌≡◌, ◌≤◌, [], ◌+◌, ◌*◌, length, map, IfOk};
+ghost use Rattle.iso_chain.specs.Views.{bare};
+ghost use Rattle.iso_table.specs.Slots.{new_slot};
+ghost use Rattle.iso_types.specs.Head.{rows_of, tables as tables_of};
 ghost use Rattle.iso_state.specs.Firsts.{first_content, first_desk};
-ghost use Rattle.iso_state.specs.Stands.{StandsFor, content_of};
+ghost use Rattle.iso_state.specs.Stands.{HeadFits, StandsFor, content_of};
 
 use iso_history::History;
+use iso_key::KeyIndex;
 use iso_locklist::LockList;
-use iso_types::{ConnDef, Desk, Head, Items, Memory, Phase, Rows, TableId};
+use iso_log::Log;
+use iso_table::Table;
+use iso_types::{ConnDef, Desk, Head, Items, Memory, Phase, TableId};
+use iso_uow::Units;
 use std::alloc::Global;
 
-/// The parts of the state: the head that it began with, for each table the rows of its slots by rid,
-/// the lock list, for each connection its desk, and the history.
+/// The parts of the state: the head that it began with; for each table its slots by rid; for each index its entries; the lock
+/// list; the log; for each connection its open unit and its desk; the history; and the sum of all entries that are kept in
+/// reserve, so that each statement can be answered and each unit undone and ended within the history's limit.
 #[derive(Drop)]
 pub struct Parts {
     pub head: Head,
-    pub tables: Items<Rows>,
+    pub tables: Items<Table>,
+    pub indexes: Items<KeyIndex>,
     pub locks: LockList,
+    pub log: Log,
+    pub units: Units,
     pub desks: Items<Desk>,
     pub history: History,
+    pub reserved: u32,
 }
 
-/// The rows that the head gives a table, in order; `Memory` where there is none for their copies. It looks at each
-/// row of the head.
-fn first_rows(alloc: Global, head: &Head, table: TableId) -> Result<Rows, Memory>
-    ensures { IfOk result (λ rows. rows ≡ rows_of head.now table) }
+/// The slots of a table with the rows that the head gives it, in order; `Memory` where there is none for their copies. It
+/// looks at each row of the head.
+fn first_table(alloc: Global, head: &Head, table: TableId) -> Result<Table, Memory>
+    ensures { IfOk result (λ slots. slots.items ≡ map new_slot (rows_of head.now table)) }
 {
-    let mut rows = Items::new(alloc);
+    let mut slots = Table::new(alloc);
     for first in head.rows.as_slice() {
         if first.table.0 == table.0 {
-            rows.push(first.row.copied(alloc)?)?;
+            match slots.add(first.row.copied(alloc)?) {
+                Ok(_) => {}
+                Err(_) => return Err(Memory),
+            }
         }
     }
-    Ok(rows)
+    Ok(slots)
 }
 
-/// The rows that the head gives each table; `Memory` where there is none. It looks at each row of the head once for
+/// The slots of each table before the first entry; `Memory` where there is none. It looks at each row of the head once for
 /// each table.
-fn first_tables(alloc: Global, head: &Head) -> Result<Items<Rows>, Memory>
+fn first_tables(alloc: Global, head: &Head) -> Result<Items<Table>, Memory>
     requires { length head.now.tables ≤ 16 }
-    ensures { IfOk result (λ tables. tables ≡ map (rows_of head.now) (tables_of head.now)) }
+    ensures { IfOk result (λ tables. bare tables ≡ map (λ t. map new_slot (rows_of head.now t)) (tables_of head.now)) }
 {
     let mut tables = Items::new(alloc);
     for at in 0..head.tables.len() {
-        tables.push(first_rows(alloc, head, TableId(at as u8))?)?;
+        tables.push(first_table(alloc, head, TableId(at as u8))?)?;
     }
     Ok(tables)
 }
@@ -66,27 +79,47 @@ fn first_desks(alloc: Global, conns: &Items<ConnDef>) -> Result<Items<Desk>, Mem
     Ok(desks)
 }
 
+/// The empty history, with room for what so many idle connections and the dispatcher need; `Memory` where there is none.
+fn first_history(alloc: Global, reserved: u32) -> Result<History, Memory>
+    ensures items { IfOk result (λ history. history.items ≡ []) }
+    ensures room { IfOk result (λ history. reserved ≤ history.spare) }
+{
+    let mut history = History::new(alloc);
+    history.reserve(reserved as usize)?;
+    Ok(history)
+}
+
+/// No index.
+fn no_indexes(alloc: Global) -> Items<KeyIndex>
+    ensures { result ≡ [] }
+{
+    Items::new(alloc)
+}
+
 impl Parts {
-    /// The parts of the empty history over a copy of the head: tables with the rows that the head gives them, and idle
-    /// connections. `Memory` where there is none. It copies all that the head declares, the rows twice, and looks at each
-    /// of its rows once for each table.
+    /// The parts of the empty history over a copy of the head without an index: tables with the rows that the head gives
+    /// them, and idle connections. `Memory` where there is none. It copies all that the head declares, the rows twice, and
+    /// looks at each of its rows once for each table.
     pub fn new(alloc: Global, head: &Head) -> Result<Parts, Memory>
-        requires tables { length head.now.tables ≤ 16 }
-        requires conns { length head.now.conns ≤ 32 }
-        requires fit { list_all (λ f. row_fits head.now f.table f.row) head.now.rows ≡ true }
-        requires pages { head.now.config.locklist ≤ 4096 }
-        requires percent { head.now.config.maxlocks ≤ 100 }
+        requires fits { HeadFits head.now }
+        requires plain { head.now.indexes ≡ [] }
         ensures stands { IfOk result (λ p. StandsFor p) }
         ensures head { IfOk result (λ p. p.head ≡ head.now) }
         ensures content { IfOk result (λ p. content_of p ≡ first_content head.now) }
         ensures history { IfOk result (λ p. p.history.items ≡ []) }
     {
+        let conns = head.conns.len() as u32;
+        let reserved = 2 * conns + 2;
         Ok(Parts {
             head: head.copied(alloc)?,
             tables: first_tables(alloc, head)?,
+            indexes: no_indexes(alloc),
             locks: LockList::new(alloc, head)?,
+            log: Log::new(alloc, &head.config),
+            units: Units::new(alloc, conns as u8)?,
             desks: first_desks(alloc, &head.conns)?,
-            history: History::new(alloc),
+            history: first_history(alloc, reserved)?,
+            reserved,
         })
     }
 }

@@ -1,7 +1,5 @@
-ghost use Rattle.std.specs.List.{list_all};
-ghost use Rattle.std.specs.Prelude.{◌≡◌, ◌≤◌, true, [], length, IfOk};
-ghost use Rattle.iso_types.specs.Head.{row_fits};
-ghost use Rattle.iso_state.specs.Stands.{StandsFor};
+ghost use Rattle.std.specs.Prelude.{◌≡◌, [], IfOk};
+ghost use Rattle.iso_state.specs.Stands.{HeadFits, StandsFor};
 ghost use Rattle.iso_state.specs.Tale.{tale_of};
 
 use crate::parts::Parts;
@@ -27,14 +25,11 @@ impl Model for State {
 }
 
 impl State {
-    /// The state of the empty history over a copy of the head; `Memory` where there is none.
+    /// The state of the empty history over a copy of the head, which has no index; `Memory` where there is none.
     /// It copies all that the head declares.
     pub fn new(alloc: Global, head: &Head) -> Result<State, Memory>
-        requires tables { length head.now.tables ≤ 16 }
-        requires conns { length head.now.conns ≤ 32 }
-        requires fit { list_all (λ f. row_fits head.now f.table f.row) head.now.rows ≡ true }
-        requires pages { head.now.config.locklist ≤ 4096 }
-        requires percent { head.now.config.maxlocks ≤ 100 }
+        requires fits { HeadFits head.now }
+        requires plain { head.now.indexes ≡ [] }
         ensures head { IfOk result (λ s. s.head ≡ head.now) }
         ensures history { IfOk result (λ s. s.history ≡ []) }
     {

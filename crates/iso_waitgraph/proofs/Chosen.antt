@@ -1,17 +1,17 @@
 -- The least way back is the chosen cycle.
-use Rattle.std.proofs.Common.{◌≡◌, ℕ, suc, ◌+◌, ◌<◌, ◌≤◌, ◌⊎◌, inl, inr, Bool, true, false, ◌||◌, ◌==◌, List, [], ◌∷◌, ◌++◌, length, refl, sym, ◌∙◌, ap, subst, arith, eqb, length-append}
+use Rattle.std.proofs.Common.{◌≡◌, ℕ, suc, ◌+◌, ◌<◌, ◌≤◌, ◌↔◌, ◌⊎◌, inl, inr, Bool, true, false, ◌||◌, ◌==◌, List, [], ◌∷◌, ◌++◌, length, refl, sym, ◌∙◌, ap, subst, arith, eqb, length-append}
 use Rattle.std.specs.Option.{MatchOption, is_some}
 use Rattle.std.specs.Prelude.{None, Option, Some}
 use Rattle.std.specs.List.{AllByRecursion, IsDistinct, list_any}
 use Rattle.std.proofs.lemmas.Bool.{cases_Bool, cases_lt, eq-eqb, eqb-true, or_cases, both_ways}
 use Rattle.std.proofs.lemmas.Map.Steps.{length-le_from_distinct_below}
-use Rattle.iso_types.specs.Cycles.{AreDifferent, IsCycle, IsShortestThrough, IsUpTo, Leads, is_among}
+use Rattle.iso_types.specs.Cycles.{AreDifferent, HasNoCycle, IsChosen, IsCycle, IsShortestThrough, IsUpTo, Leads, is_among}
 use Rattle.iso_types.specs.Edges.{has_edge, leads}
 use Rattle.iso_types.specs.declared.edges.Edges.{Edges}
 use Rattle.iso_types.specs.declared.value.Conn.{Conn}
 use Rattle.iso_waitgraph.proofs.Distances.{shortest-walk}
 use Rattle.iso_waitgraph.proofs.Sets.{or-left, place-within}
-use Rattle.iso_waitgraph.proofs.Ways.{conn-is, falls-length, walk-of, way-cycle}
+use Rattle.iso_waitgraph.proofs.Ways.{away-cycle, conn-is, falls-length, walk-of, way-cycle}
 use Rattle.iso_waitgraph.specs.Walks.{AreLevels, IsAway, IsLeastWay, IsNoNearer, Walk, set_at}
 
 -- a way through a connection, cut there
@@ -202,3 +202,34 @@ next-start sets start past none q d h on =
 pub none-of : {A : Type 0} (o : Option A) (P : Type 0) (Q : A → Type 0) → MatchOption o P Q → is_some o ≡ false → P
 none-of None P Q h e = h
 none-of (Some x) P Q h e = absurd (both_ways true e refl)
+
+-- the start of the cycle that was found is the least connection on a cycle
+pub some-of : (sets : List Edges) (start : ℕ) (o : Option (List Conn))
+    → MatchOption o ((q : List Conn) → IsCycle (leads sets) q → is_among (record { 0 = start }) q ≡ true → ⊥) (IsShortestThrough (leads sets) (record { 0 = start }))
+    → is_some o ≡ true
+    → ((q : List Conn) (d : Conn) → IsCycle (leads sets) q → is_among d q ≡ true → start ≤ d.0)
+    → MatchOption o (HasNoCycle (leads sets)) (IsChosen (leads sets))
+some-of sets start None h e least = absurd (both_ways false refl e)
+some-of sets start (Some p) h e least = (record { 0 = start }, record { on = (p, h.cycle, h.through); least = least }, h)
+
+-- two tests of one thing are one
+pub same-tests : {P : Type 0} (a b : Bool) → (a ≡ true) ↔ P → (b ≡ true) ↔ P → a ≡ b
+same-tests true true h g = refl
+same-tests false false h g = refl
+same-tests true false h g = sym (g.1 (h.0 refl))
+same-tests false true h g = h.1 (g.0 refl)
+
+-- the nearest level to which the connection has an edge tells whether it lies on a cycle
+pub tells-cycle : (sets : List Edges) (start : Conn) (levels : List Edges) (o : Option ℕ) (b : Bool) → length sets ≡ 32 → AreLevels sets start levels 32
+    → MatchOption o ((j : ℕ) (w : Conn) → j < 32 → has_edge (set_at sets start.0) w ≡ true → has_edge (set_at levels j) w ≡ true → ⊥)
+    (λ k. (k < 32)
+    × ((w : Conn) × (has_edge (set_at sets start.0) w ≡ true) × (has_edge (set_at levels k) w ≡ true))
+    × ((j : ℕ) (w : Conn) → j < k → has_edge (set_at sets start.0) w ≡ true → has_edge (set_at levels j) w ≡ true → ⊥))
+    → b ≡ is_some o → (b ≡ true) ↔ ((q : List Conn) × IsCycle (leads sets) q × (is_among start q ≡ true))
+unfolding leads
+tells-cycle sets start levels None b full on h e =
+    (λ t. absurd (both_ways false refl (sym e ∙ t)), λ w. absurd (no-cycle sets start levels full on h w.0 w.1 w.2))
+tells-cycle sets start levels (Some k) b full on h e =
+    let w : (w : Conn) × (has_edge (set_at sets start.0) w ≡ true) × (has_edge (set_at levels k) w ≡ true) = h.1 in
+    let t : (ds : List Conn) × IsCycle (leads sets) (start ∷ ds) = away-cycle (leads sets) start w.0 k w.1 ((on k w.0 h.0).0 w.2) in
+    (λ i. (start ∷ t.0, t.1, or-left (start.0 == start.0) (is_among start t.0) (eq-eqb start.0 start.0 refl)), λ i. e)

@@ -7,7 +7,7 @@ use Rattle.iso_types.specs.Edges.{has_edge, leads}
 use Rattle.iso_types.specs.declared.edges.Edges.{Edges}
 use Rattle.iso_waitgraph.specs.Walks.{AreLevels, IsAway, Walk, set_at}
 
-not-of : (a : Bool) → a ≡ false → not a ≡ true
+pub not-of : (a : Bool) → a ≡ false → not a ≡ true
 not-of a h = rw h refl
 
 -- who has an edge into a level, and was not seen before, is on the next level

@@ -105,3 +105,18 @@ pub completes-none : (edge : Conn → Conn → Bool) (start : Conn) (last : ℕ)
 completes-none edge start last at w cycle e away h =
     let t : (es : List Conn) × (cycle ++ [] ≡ start ∷ es) × IsLeastWay edge start start last es = h [] (way-none edge start at w e away) in
     (t.0, sym (append-nil cycle) ∙ t.1, t.2)
+
+-- where there is a walk back there is a shortest one, and it is a cycle
+pub falls-from : (edge : Conn → Conn → Bool) (end at w : Conn) (k : ℕ) → edge at w ≡ true → IsAway edge end k w
+    → (ds : List Conn) × Falls edge end k ds × Leads edge at ds end
+falls-from edge end at w zero e h = ([], tt, let P : Conn → Type 0 = λ c. edge at c ≡ true in subst P h.walk e)
+falls-from edge end at w (suc k) e h =
+    let n : (v : Conn) × (edge w v ≡ true) × IsAway edge end k v = next-on edge end w k h in
+    let t : (ds : List Conn) × Falls edge end k ds × Leads edge w ds end = falls-from edge end w n.0 k n.1 n.2 in
+    (w ∷ t.0, (h, t.1), (e, t.2))
+
+pub away-cycle : (edge : Conn → Conn → Bool) (start w : Conn) (k : ℕ) → edge start w ≡ true → IsAway edge start k w
+    → (ds : List Conn) × IsCycle edge (start ∷ ds)
+away-cycle edge start w k e h =
+    let t : (ds : List Conn) × Falls edge start k ds × Leads edge start ds start = falls-from edge start start w k e h in
+    (t.0, ((apart edge start start 0 k t.0 (at-end edge start) (inl refl) t.1, different edge start k t.0 t.1), t.2))

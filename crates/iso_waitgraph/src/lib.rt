@@ -1,6 +1,7 @@
-//! The chosen cycle of a wait-for graph. No call takes memory.
+//! The chosen cycle of a wait-for graph, and who lies on a cycle. No call takes memory.
 #![tactic(auto)]
 
+pub mod laws;
 mod search;
 
-pub use search::cycle;
+pub use search::{cycle, on_cycle};

@@ -1,8 +1,9 @@
 ghost use Rattle.std.specs.Prelude.{◌≡◌, ℕ, suc, ◌<◌, ◌≤◌, ◌↔◌, true, List, [], ◌∷◌, ◌++◌, length, MatchOption};
-ghost use Rattle.iso_types.specs.Cycles.{HasNoCycle, IsChosen, IsCycle, IsShortestThrough, is_among};
+ghost use Rattle.iso_types.specs.Cycles.{HasNoCycle, IsChosen, IsCycle, IsShortestThrough, chosen_cycle, is_among, is_on_cycle};
 ghost use Rattle.iso_types.specs.Edges.{has_edge, leads};
 ghost use Rattle.iso_types.specs.declared.edges.Edges.{Edges as EdgeSet};
 ghost use Rattle.iso_types.specs.declared.value.Conn.{Conn as Connection};
+ghost use Rattle.iso_waitgraph.specs.Targets.{AreTargets};
 ghost use Rattle.iso_waitgraph.specs.Walks.{AreLevels, IsAway, IsLeastWay, IsNoNearer, LeadsInto, set_at};
 
 use iso_types::{Conn, Cycle, Edges};
@@ -100,10 +101,13 @@ fn through(edges: &[Edges; 32], start: Conn) -> Option<Cycle>
 
 /// The chosen cycle of the edges from each connection, None exactly where there is no cycle: the
 /// least connection that lies on a cycle, the shortest cycle through it, and among these the one
-/// whose list is least. This project's own. No memory; for each connection the edges are gone over
+/// whose list is least. Where the sets are the edges of a history, it is the cycle by which the
+/// history is judged. This project's own. No memory; for each connection the edges are gone over
 /// once, breadth first.
 pub fn cycle(edges: &[Edges; 32]) -> Option<Cycle>
-    ensures { MatchOption result (HasNoCycle (leads edges.now)) (IsChosen (leads edges.now)) }
+    ensures chosen { MatchOption result (HasNoCycle (leads edges.now)) (IsChosen (leads edges.now)) }
+    ensures judged { (targets : Connection → List Connection) (all : List Connection) → AreTargets (leads edges.now) targets all
+        → result ≡ chosen_cycle targets all }
 {
     for start in 0..32 {
         let found = through(edges, Conn(start));
@@ -112,6 +116,17 @@ pub fn cycle(edges: &[Edges; 32]) -> Option<Cycle>
         }
     }
     None
+}
+
+/// Whether the connection lies on a cycle of the edges from each connection. This project's own. No
+/// memory; the edges are gone over once, breadth first, and again for each level.
+pub fn on_cycle(edges: &[Edges; 32], conn: Conn) -> bool
+    requires { conn.0 < 32 }
+    ensures on { (result ≡ true) ↔ ((q : List Connection) × IsCycle (leads edges.now) q × (is_among conn q ≡ true)) }
+    ensures judged { (targets : Connection → List Connection) (all : List Connection) → AreTargets (leads edges.now) targets all
+        → result ≡ is_on_cycle targets all conn }
+{
+    nearest(edges[conn.0 as usize], &levels(edges, conn)).is_some()
 }
 
 #[cfg(test)]
@@ -158,6 +173,32 @@ mod tests {
                     }
                 }
                 None => assert!(rt; want.is_empty()),
+            }
+        }
+    }
+
+    #[test]
+    fn who_lies_on_a_cycle(rt: HostRuntime) {
+        let cases: [(&[u32], u32); 7] = [
+            // no edges
+            (&[], 0),
+            // edges without a cycle
+            (&[0b010, 0b100, 0], 0),
+            // a ring of three, and one that leads into it
+            (&[0b0010, 0b0100, 0b0001, 0b0001], 0b0111),
+            // one leads into a ring, and one comes out of it
+            (&[0b0010, 0b0100, 0b1010, 0], 0b0110),
+            // two rings, with an edge from one to the other
+            (&[0b0010, 0b0101, 0b1000, 0b0100], 0b1111),
+            // an edge to itself
+            (&[0b10, 0b10], 0b10),
+            // on a longer cycle than the one that is chosen
+            (&[0b0010, 0b0101, 0b1000, 0b0001], 0b1111),
+        ];
+        for (bits, want) in cases.iter() {
+            let sets = graph(bits);
+            for conn in 0..32 {
+                assert!(rt; on_cycle(&sets, Conn(conn)) == Edges(*want).has(Conn(conn)));
             }
         }
     }

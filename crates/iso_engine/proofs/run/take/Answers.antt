@@ -1,7 +1,7 @@
 use Rattle.std.proofs.Common.{◌+◌, drop}
 use Rattle.iso_first_conduct.specs.Points.{start_point}
 use Rattle.iso_engine.specs.UnderWay.{IsRunning, IsSoFar}
-use Rattle.iso_engine.proofs.Carry.{carried, either_way, kept, on_ok}
+use Rattle.iso_engine.proofs.Carry.{carried, either_way, kept, on_ok, still_open}
 use Rattle.iso_engine.proofs.Ends.{so-far}
 use Rattle.iso_engine.proofs.Lines.{taken}
 use Rattle.iso_first_state.specs.Stands.{content_of}
@@ -18,3 +18,6 @@ returns-clause-legal c = either_way
     (returns-clause-ok c) c.dispatch.ensures.err (λ i. so-far _ _ _ _ i.way)
     (λ same. kept (λ h es. IsSoFar h c.args.lines.now es)
     (content_of c.args.parts.now) (content_of c.dispatch.new.parts) same (so-far _ _ _ _ c.requires.idle.way))
+
+pub returns-clause-open_ : goal.returns-clause-open_
+returns-clause-open_ c = still_open _ (content_of c.args.parts.now) (content_of c.dispatch.new.parts) c.requires.idle.way.open_ c.dispatch.ensures.err

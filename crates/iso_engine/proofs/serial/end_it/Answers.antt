@@ -1,5 +1,5 @@
 use Rattle.iso_engine.specs.UnderWay.{IsOver, IsSoFar}
-use Rattle.iso_engine.proofs.Carry.{carried, either_way, kept, on_ok}
+use Rattle.iso_engine.proofs.Carry.{carried, either_way, kept, on_ok, still_open}
 use Rattle.iso_engine.proofs.Ends.{over-on, so-far}
 use Rattle.iso_first_state.specs.Stands.{content_of}
 use Rattle.iso_engine.proofs.serial.end_it.Goals as goal
@@ -14,3 +14,6 @@ returns-clause-legal c = either_way _ c.ended.ensures.ok c.ended.ensures.err
     c.ended.ensures.head is (so-far _ _ _ _ (over-on _ _ _ c.requires.can.conns c.requires.closing).way))
     (λ same. kept (λ h es. IsSoFar h c.args.lines.now es)
     (content_of c.args.parts.now) (content_of c.ended.new.parts) same (so-far _ _ _ _ c.requires.closing.way))
+
+pub returns-clause-open_ : goal.returns-clause-open_
+returns-clause-open_ c = still_open _ (content_of c.args.parts.now) (content_of c.ended.new.parts) c.requires.closing.way.open_ c.ended.ensures.err

@@ -1,13 +1,10 @@
-use Rattle.iso_state.specs.Stands.{world_of}
-use Rattle.iso_state.proofs.LockReads.{no-wait}
 use Rattle.iso_state.proofs.LockWrites.{queued-are}
+use Rattle.iso_state.specs.Stands.{world_of}
 use Rattle.iso_state.proofs.locks.enqueue.Goals as goal
-use Rattle.iso_state.proofs.FactsAlong.{facts-of}
 
 pub returns-in-Ok-clause-ok : goal.returns-in-Ok-clause-ok
 returns-in-Ok-clause-ok c =
     let p = c.args.parts.now in
-    queued-are p.head (world_of p) p.locks.places c.requires.stands.parts.locks (facts-of c.requires.stands) c.args.conn c.args.name.now c.args.mode c.args.term
-    c.request.new.self.places c.requires.idle
-    (c.in-Ok.ensures.lists (no-wait p.head (world_of p) p.locks.places c.requires.stands.parts.locks (facts-of c.requires.stands) c.args.conn c.requires.idle))
+    queued-are p.head (world_of p) c.args.conn c.args.name.now c.args.mode c.args.term c.request.new.self
+    (c.in-Ok.ensures.lists (world_of p).holds (world_of p).waits c.requires.stands.parts.locks c.requires.idle)
     c.args.to c.requires.queues

@@ -1,22 +1,25 @@
 use Rattle.iso_state.specs.Stands.{world_of}
-use Rattle.iso_state.proofs.LockReads.{room-is}
-use Rattle.iso_state.proofs.locks.is_limited.Goals as goal
 use Rattle.iso_state.proofs.FactsAlong.{facts-of}
+use Rattle.iso_state.proofs.LockReads.{of-head, room-is}
+use Rattle.iso_state.proofs.locks.is_limited.Goals as goal
 
 pub returns-in-Free : goal.returns-in-Free
 returns-in-Free c =
     let p = c.args.parts.now in
-    (room-is p.head (world_of p) p.locks c.args.conn c.args.more c.room.result c.requires.stands.limits c.requires.stands.parts.locks (facts-of c.requires.stands)
-    c.requires.stands.few c.lists_count_taken.ensures.each c.lists_count_taken.ensures.all c.room.ensures).free c.in-Free.is
+    (room-is p.head (world_of p) p.locks c.args.conn c.args.more c.room.result c.requires.stands.limits
+    (c.room.ensures p.head (world_of p).holds (world_of p).waits c.requires.stands.parts.locks
+    (of-head p.head (world_of p) (facts-of c.requires.stands.stands) c.requires.stands.fits.conns))).free c.in-Free.is
 
 pub returns-in-AtShare : goal.returns-in-AtShare
 returns-in-AtShare c =
     let p = c.args.parts.now in
-    (room-is p.head (world_of p) p.locks c.args.conn c.args.more c.room.result c.requires.stands.limits c.requires.stands.parts.locks (facts-of c.requires.stands)
-    c.requires.stands.few c.lists_count_taken.ensures.each c.lists_count_taken.ensures.all c.room.ensures).share c.in-AtShare.is
+    (room-is p.head (world_of p) p.locks c.args.conn c.args.more c.room.result c.requires.stands.limits
+    (c.room.ensures p.head (world_of p).holds (world_of p).waits c.requires.stands.parts.locks
+    (of-head p.head (world_of p) (facts-of c.requires.stands.stands) c.requires.stands.fits.conns))).share c.in-AtShare.is
 
 pub returns-in-AtCapacity : goal.returns-in-AtCapacity
 returns-in-AtCapacity c =
     let p = c.args.parts.now in
-    (room-is p.head (world_of p) p.locks c.args.conn c.args.more c.room.result c.requires.stands.limits c.requires.stands.parts.locks (facts-of c.requires.stands)
-    c.requires.stands.few c.lists_count_taken.ensures.each c.lists_count_taken.ensures.all c.room.ensures).capacity c.in-AtCapacity.is
+    (room-is p.head (world_of p) p.locks c.args.conn c.args.more c.room.result c.requires.stands.limits
+    (c.room.ensures p.head (world_of p).holds (world_of p).waits c.requires.stands.parts.locks
+    (of-head p.head (world_of p) (facts-of c.requires.stands.stands) c.requires.stands.fits.conns))).capacity c.in-AtCapacity.is

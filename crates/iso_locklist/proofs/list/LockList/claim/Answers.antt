@@ -1,3 +1,4 @@
+use Rattle.std.proofs.Common.{◌≡◌, true}
 use Rattle.std.proofs.Common.{ap, refl, sym, subst, ◌∙◌, List}
 use Rattle.iso_locklist.specs.Places.{IsCounted, Ledger, are_apart, line_at, names}
 use Rattle.iso_locklist.specs.declared.places.Place.{Place}
@@ -7,13 +8,12 @@ use Rattle.iso_locklist.proofs.Touched.{claimed_same}
 use Rattle.iso_locklist.proofs.Updates.{line_at_each}
 use Rattle.iso_queue.specs.Lines.{Line, claimed}
 use Rattle.iso_types.specs.declared.value.Name.{Name}
-use Rattle.iso_locklist.specs.Lists.{IsSingle}
-use Rattle.iso_locklist.proofs.Singles.{claimed_mild, single_each}
-use Rattle.std.proofs.Common.{◌≤◌}
-use Rattle.std.specs.Prelude.{count_by}
-use Rattle.iso_locklist.specs.Lists.{IsClaimed, waits_in}
 use Rattle.iso_locklist.proofs.ClaimedLists.{claimed_lists}
-use Rattle.iso_types.specs.Ids.{conn_eq}
+use Rattle.std.proofs.Common.{Bool}
+use Rattle.std.specs.Prelude.{if◌then◌else◌}
+use Rattle.iso_queue.specs.declared.types.Claimed.{Claimed}
+use Rattle.iso_locklist.specs.Places.{is_grantable_in}
+use Rattle.iso_locklist.proofs.Holding.{claimed_are, grantable_shown}
 use Rattle.iso_locklist.proofs.list.LockList.claim.Goals as goal
 
 pub invariant_of-self : goal.invariant_of-self
@@ -31,18 +31,17 @@ returns-clause-lines c = λ n.
     ap (λ (ps : List Place). line_at ps n) c.claim_all.ensures.places ∙ line_at_each (λ (n : Name) (q : Line). claimed q c.args.conn) c.self.inside.places.items n refl
     ∙ ap (λ (l : Ledger). claimed (line_at l.places n) c.args.conn) c.self.view_is
 
-pub returns-clause-single : goal.returns-clause-single
-returns-clause-single c = λ d is.
-    subst (λ (ps : List Place). IsSingle ps d) (sym c.claim_all.ensures.places)
-    (single_each (λ (n : Name) (q : Line). claimed q c.args.conn) c.self.inside.places.items d (claimed_mild c.args.conn)
-    (subst (λ (l : Ledger). IsSingle l.places d) (sym c.self.view_is) is))
-
 pub returns-clause-lists : goal.returns-clause-lists
-returns-clause-lists c = λ le.
-    subst (λ (l : Ledger). IsClaimed l.places c.claim_all.new.places.items c.args.conn) c.self.view_is
-    (claimed_lists c.self.inside.places.items c.claim_all.new.places.items c.args.conn c.self.invariant.apart
-    (ap (λ (ps : List Place). are_apart (names ps)) c.claim_all.ensures.places
-    ∙ apart_each (λ (n : Name) (q : Line). claimed q c.args.conn) c.self.inside.places.items c.self.invariant.apart)
-    (subst (λ (l : Ledger). count_by (λ x. conn_eq x.conn c.args.conn) (waits_in l.places) ≤ 1) (sym c.self.view_is) le)
-    (λ n. ap (λ (ps : List Place). line_at ps n) c.claim_all.ensures.places
-    ∙ line_at_each (λ (n : Name) (q : Line). claimed q c.args.conn) c.self.inside.places.items n refl))
+returns-clause-lists c = λ hs xs are single.
+    let old = c.args.self.now.places in
+    let unlike = (subst (λ (l : Ledger). are_apart (names l.places) ≡ true) c.self.view_is c.self.invariant.apart) in
+    let still = ap (λ (ps : List Place). are_apart (names ps)) c.claim_all.ensures.places
+    ∙ apart_each (λ (n : Name) (q : Line). claimed q c.args.conn) c.self.inside.places.items c.self.invariant.apart in
+    claimed_are old c.claim_all.new.places.items unlike still hs xs are c.args.conn single
+    (λ le. claimed_lists old c.claim_all.new.places.items c.args.conn unlike still le (returns-clause-lines c))
+
+pub returns-clause-told : goal.returns-clause-told
+returns-clause-told c = λ hs xs are single.
+    c.claim_all.ensures.answer
+    ∙ ap (λ (l : Ledger). if is_grantable_in l.places c.args.conn then Claimed.Granted else Claimed.NotYet) c.self.view_is
+    ∙ ap (λ (b : Bool). if b then Claimed.Granted else Claimed.NotYet) (grantable_shown c.args.self.now.places (subst (λ (l : Ledger). are_apart (names l.places) ≡ true) c.self.view_is c.self.invariant.apart) hs xs are c.args.conn single)

@@ -1,26 +1,16 @@
 use Rattle.std.proofs.Common.{ap, refl, ◌∙◌, List}
-use Rattle.iso_locklist.specs.Places.{line_at, changed}
+use Rattle.iso_locklist.specs.Places.{line_at, changed_in}
 use Rattle.iso_locklist.specs.declared.places.Change.{Change}
 use Rattle.iso_locklist.specs.declared.places.Place.{Place}
+use Rattle.iso_locklist.specs.declared.places.Scope.TheVariants.{Each}
 use Rattle.iso_locklist.proofs.Updates.{line_at_each}
-use Rattle.iso_locklist.specs.Lists.{IsSingle}
-use Rattle.iso_locklist.proofs.Singles.{changed_mild, single_each}
-use Rattle.std.proofs.Common.{subst, sym}
-use Rattle.iso_locklist.specs.Lists.{holds_in, waits_in}
-use Rattle.iso_locklist.proofs.Ends.{holds_dropped, waits_dropped}
+use Rattle.iso_locklist.proofs.Holding.{lines_dropped}
 use Rattle.iso_locklist.proofs.list.LockList.release_all.Goals as goal
 
 pub returns-clause-lines : goal.returns-clause-lines
 returns-clause-lines c = λ n.
-    ap (λ (ps : List Place). line_at ps n) c.change_all.ensures.places ∙ line_at_each (changed Change.Release c.args.conn) c.args.self.now.places n refl
+    ap (λ (ps : List Place). line_at ps n) c.change_all.ensures.places ∙ line_at_each (changed_in c.args.self.now.index_tables Each Change.Release c.args.conn) c.args.self.now.places n refl
 
-pub returns-clause-single : goal.returns-clause-single
-returns-clause-single c = λ d is.
-    subst (λ (ps : List Place). IsSingle ps d) (sym c.change_all.ensures.places)
-    (single_each (changed Change.Release c.args.conn) c.args.self.now.places d (changed_mild Change.Release c.args.conn) is)
-
-pub returns-clause-holds : goal.returns-clause-holds
-returns-clause-holds c = ap holds_in c.change_all.ensures.places ∙ holds_dropped c.args.conn c.args.self.now.places
-
-pub returns-clause-waits : goal.returns-clause-waits
-returns-clause-waits c = ap waits_in c.change_all.ensures.places ∙ waits_dropped c.args.conn c.args.self.now.places
+pub returns-clause-lists : goal.returns-clause-lists
+returns-clause-lists c = λ hs xs are.
+    lines_dropped hs xs (λ n. line_at c.args.self.now.places n) (λ n. line_at c.change_all.new.self.places n) are c.args.conn (returns-clause-lines c)

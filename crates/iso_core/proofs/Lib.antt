@@ -1,4 +1,0 @@
-pub mod Undone
-pub mod Settled
-pub mod Updated
-pub mod FactsAlong
