@@ -267,21 +267,21 @@ module _ (head : Head) (w : World) (ls : List Line) (live : AreLive head w) (ove
           (on-cycle (edge_in head w) (edges_in head w) (conns head) (targets-in head w) c).0 e in
           absurd (no-cycle head w none t.0 t.1)
 
-    step-some : (n : ℕ) (what : What) (o : Option Conn) → is_sound_what head o what ≡ true → step_of head w n what o ≡ None → ⊥
-    step-some n (What.Statement s) (Some c) sound e = go (is_phase (phase w c) Idle) refl (is_busy head w c) refl e where
+    step-some : (n : ℕ) (what : What) (o : Option Conn) (free : Bool) → is_sound_what head o what free ≡ true → step_of head w n what o ≡ None → ⊥
+    step-some n (What.Statement s) (Some c) free sound e = go (is_phase (phase w c) Idle) refl (is_busy head w c) refl e where
       go : (i : Bool) → is_phase (phase w c) Idle ≡ i → (b : Bool) → is_busy head w c ≡ b
           → (if i then Some (Act.Dispatch n c) else if b then Some (Act.Busy n c) else None) ≡ None → ⊥
       go true idle b busy k = not-some (Act.Dispatch n c) k
       go false idle true busy k = not-some (Act.Busy n c) k
       go false idle false busy k =
           both_ways (is_busy head w c) busy (busy-if c (among-conns head c (and_parts _ _ sound).0) idle)
-    step-some n (What.Statement s) None sound e = both_ways false refl sound
-    step-some n What.Expire (Some c) sound e = not-some (Act.Expire n c (is_phase (phase w c) Phase.Waiting)) e
-    step-some n What.Expire None sound e = both_ways false refl sound
-    step-some n What.Snapshot o sound e = not-some (Act.Snapshot n (snapshot head w.holds w.waits)) e
+    step-some n (What.Statement s) None free sound e = both_ways false refl sound
+    step-some n What.Expire (Some c) free sound e = not-some (Act.Expire n c (is_phase (phase w c) Phase.Waiting)) e
+    step-some n What.Expire None free sound e = both_ways false refl sound
+    step-some n What.Snapshot o free sound e = not-some (Act.Snapshot n (snapshot head w.holds w.waits)) e
 
     line-some : (l : Line) → is_sound_line head l ≡ true → line_step head w l ≡ None → ⊥
-    line-some l sound e = step-some l.number l.what l.conn sound (past l.free e) where
+    line-some l sound e = step-some l.number l.what l.conn l.free sound (past l.free e) where
       past : (b : Bool) → (if b || is_quiet head w then step_of head w l.number l.what l.conn else None) ≡ None → step_of head w l.number l.what l.conn ≡ None
       past true k = k
       past false k = rw quiet at k
