@@ -1,1 +1,3 @@
 pub mod Commits
+pub mod Places
+pub mod Replies
