@@ -1,8 +1,7 @@
 -- The parts after an agent's entry, where it is never refused, and where room was made for it.
-use Rattle.std.proofs.Common.{◌≡◌, ◌≤◌, ◌<◌, ◌+◌, ◌⊎◌, inl, inr, ℕ, Bool, true, false, not, List, length, refl, ap, sym, ◌∙◌, arith, subst}
-use Rattle.std.specs.Prelude.{IsTrue, slice_set}
+use Rattle.std.proofs.Common.{◌≡◌, ◌≤◌, ◌<◌, ◌+◌, inl, inr, ℕ, true, false, length, refl, ◌∙◌, arith}
+use Rattle.std.specs.Prelude.{slice_set}
 use Rattle.iso_chain.specs.Stands.{Chained}
-use Rattle.iso_history.specs.After.{after}
 use Rattle.iso_history.specs.Legal.{Allowed, ByAgent}
 use Rattle.iso_history.specs.Makers.{by_agent}
 use Rattle.iso_history.specs.Reserves.{log_room_of, records_of, reserves_less, reserves_more}
@@ -14,9 +13,9 @@ use Rattle.iso_locklist.specs.Places.{Ledger}
 use Rattle.iso_types.specs.declared.desk.Desk.{Desk}
 use Rattle.iso_types.specs.declared.value.Conn.{Conn}
 use Rattle.iso_state.proofs.ByKind.{full-is, ready-allowed, reserved-covers}
-use Rattle.iso_state.proofs.Steps.{IsOwn, IsRoomFor, conn-is, is-open, own-place}
+use Rattle.iso_state.proofs.Steps.{IsOwn, conn-is, is-open, own-place}
 use Rattle.iso_state.specs.Changes.{stepped}
-use Rattle.iso_state.specs.Stands.{Content, Stands, StandsFor, content_of, world_of}
+use Rattle.iso_state.specs.Stands.{StandsFor, content_of, world_of}
 use Rattle.iso_state.specs.Steps.{IsReady, Spends, is_past}
 use Rattle.iso_state.specs.declared.parts.Parts.{Parts}
 

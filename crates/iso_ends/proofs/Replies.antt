@@ -1,13 +1,13 @@
 -- The parts after a Reply, and after a Set.
-use Rattle.std.proofs.Common.{◌≡◌, ◌≤◌, ◌<◌, ◌+◌, ℕ, Bool, true, false, List, length, refl, ap, sym, subst, ◌∙◌, arith, None, Option}
-use Rattle.std.specs.Prelude.{IfSome, ℤ, slice_set}
+use Rattle.std.proofs.Common.{◌≡◌, ◌<◌, ℕ, Bool, false, List, length, refl, ap, sym, subst, None, Option}
+use Rattle.std.specs.Prelude.{IfSome, ℤ}
 use Rattle.iso_chain.proofs.Units.{kept-chained}
 use Rattle.iso_history.proofs.limits.Others.{at-same}
 use Rattle.iso_history.specs.After.{after, world}
 use Rattle.iso_history.specs.Legal.{Runs}
 use Rattle.iso_history.specs.Makers.{by_agent}
 use Rattle.iso_history.specs.Phases.{phase}
-use Rattle.iso_history.specs.World.{Setting, World, at_conn}
+use Rattle.iso_history.specs.World.{Setting, World}
 use Rattle.iso_history.specs.declared.entry.Act.TheVariants.{Reply, Set}
 use Rattle.iso_locklist.specs.Holding.{LocksAre}
 use Rattle.iso_locklist.specs.Places.{IsSameLimits, Ledger}

@@ -1,7 +1,7 @@
 use Rattle.std.proofs.Common.{◌≡◌, ◌<◌, ◌∙◌, ap, refl, subst, sym, false, length}
 use Rattle.std.specs.Prelude.{ℤ}
 use Rattle.std.proofs.Math.Facts.{to_z-of_z}
-use Rattle.iso_history.specs.Legal.{ByAgent, Runs}
+use Rattle.iso_history.specs.Legal.{Runs}
 use Rattle.iso_history.specs.After.{world}
 use Rattle.iso_history.specs.declared.entry.Act.TheVariants.{Reply}
 use Rattle.iso_history.specs.declared.entry.Entry.{Entry}

@@ -1,5 +1,5 @@
 use Rattle.std.proofs.Common.{◌≡◌, ◌<◌, ◌∙◌, ap, refl, subst, sym, false, length}
-use Rattle.iso_history.specs.Legal.{ByAgent, Runs}
+use Rattle.iso_history.specs.Legal.{Runs}
 use Rattle.iso_history.specs.After.{world}
 use Rattle.iso_history.specs.declared.entry.Act.TheVariants.{Set}
 use Rattle.iso_history.specs.Makers.{by_agent}
