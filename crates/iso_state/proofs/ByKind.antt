@@ -114,37 +114,189 @@ locks-none Escalation (Got.Queued to) (End i) m = refl
 
 pub bare-is : (head : Head) (w : World) (c : Conn) (a : Act) → is_bare a ≡ true → IsBare head w c a
 bare-is head w c (Lock n m t why Got.Granted) e = record {
-  leaves = record { tables = refl; records = refl; changes = refl; unit = refl; marks = refl; begun = refl; entries = refl; line = refl;
-    setting = refl; floor = refl; ended = refl; closing = refl; more = refl; refused = refl; unlogged = refl; unclaimed_is = locks-none why Got.Granted n m };
-  waits = refl; doom = refl; less = refl }
+  leaves = record {
+    tables = refl;
+    records = refl;
+    changes = refl;
+    unit = refl;
+    marks = refl;
+    begun = refl;
+    entries = refl;
+    line = refl;
+    setting = refl;
+    floor = refl;
+    ended = refl;
+    closing = refl;
+    more = refl;
+    refused = refl;
+    unlogged = refl;
+    unclaimed_is = locks-none why Got.Granted n m;
+  };
+  waits = refl;
+  doom = refl;
+  less = refl;
+}
 bare-is head w c (Look t r want Got.Granted) e = record {
-  leaves = record { tables = refl; records = refl; changes = refl; unit = refl; marks = refl; begun = refl; entries = refl; line = refl;
-    setting = refl; floor = refl; ended = refl; closing = refl; more = refl; refused = refl; unlogged = refl; unclaimed_is = refl };
-  waits = refl; doom = refl; less = refl }
+  leaves = record {
+    tables = refl;
+    records = refl;
+    changes = refl;
+    unit = refl;
+    marks = refl;
+    begun = refl;
+    entries = refl;
+    line = refl;
+    setting = refl;
+    floor = refl;
+    ended = refl;
+    closing = refl;
+    more = refl;
+    refused = refl;
+    unlogged = refl;
+    unclaimed_is = refl;
+  };
+  waits = refl;
+  doom = refl;
+  less = refl;
+}
 bare-is head w c (ScanEnd t n) e = record {
-  leaves = record { tables = refl; records = refl; changes = refl; unit = refl; marks = refl; begun = refl; entries = refl; line = refl;
-    setting = refl; floor = refl; ended = refl; closing = refl; more = refl; refused = refl; unlogged = refl; unclaimed_is = refl };
-  waits = refl; doom = refl; less = refl }
+  leaves = record {
+    tables = refl;
+    records = refl;
+    changes = refl;
+    unit = refl;
+    marks = refl;
+    begun = refl;
+    entries = refl;
+    line = refl;
+    setting = refl;
+    floor = refl;
+    ended = refl;
+    closing = refl;
+    more = refl;
+    refused = refl;
+    unlogged = refl;
+    unclaimed_is = refl;
+  };
+  waits = refl;
+  doom = refl;
+  less = refl;
+}
 bare-is head w c (Next i range at guarded (Stand.At v r)) e = record {
-  leaves = record { tables = refl; records = refl; changes = refl; unit = refl; marks = refl; begun = refl; entries = refl; line = refl;
-    setting = refl; floor = refl; ended = refl; closing = refl; more = refl; refused = refl; unlogged = refl; unclaimed_is = refl };
-  waits = refl; doom = refl; less = refl }
+  leaves = record {
+    tables = refl;
+    records = refl;
+    changes = refl;
+    unit = refl;
+    marks = refl;
+    begun = refl;
+    entries = refl;
+    line = refl;
+    setting = refl;
+    floor = refl;
+    ended = refl;
+    closing = refl;
+    more = refl;
+    refused = refl;
+    unlogged = refl;
+    unclaimed_is = refl;
+  };
+  waits = refl;
+  doom = refl;
+  less = refl;
+}
 bare-is head w c (Next i range at guarded Stand.Past) e = record {
-  leaves = record { tables = refl; records = refl; changes = refl; unit = refl; marks = refl; begun = refl; entries = refl; line = refl;
-    setting = refl; floor = refl; ended = refl; closing = refl; more = refl; refused = refl; unlogged = refl; unclaimed_is = refl };
-  waits = refl; doom = refl; less = refl }
+  leaves = record {
+    tables = refl;
+    records = refl;
+    changes = refl;
+    unit = refl;
+    marks = refl;
+    begun = refl;
+    entries = refl;
+    line = refl;
+    setting = refl;
+    floor = refl;
+    ended = refl;
+    closing = refl;
+    more = refl;
+    refused = refl;
+    unlogged = refl;
+    unclaimed_is = refl;
+  };
+  waits = refl;
+  doom = refl;
+  less = refl;
+}
 bare-is head w c (Free t r) e = record {
-  leaves = record { tables = refl; records = refl; changes = refl; unit = refl; marks = refl; begun = refl; entries = refl; line = refl;
-    setting = refl; floor = refl; ended = refl; closing = refl; more = refl; refused = refl; unlogged = refl; unclaimed_is = refl };
-  waits = refl; doom = refl; less = refl }
+  leaves = record {
+    tables = refl;
+    records = refl;
+    changes = refl;
+    unit = refl;
+    marks = refl;
+    begun = refl;
+    entries = refl;
+    line = refl;
+    setting = refl;
+    floor = refl;
+    ended = refl;
+    closing = refl;
+    more = refl;
+    refused = refl;
+    unlogged = refl;
+    unclaimed_is = refl;
+  };
+  waits = refl;
+  doom = refl;
+  less = refl;
+}
 bare-is head w c (Collapse t m) e = record {
-  leaves = record { tables = refl; records = refl; changes = refl; unit = refl; marks = refl; begun = refl; entries = refl; line = refl;
-    setting = refl; floor = refl; ended = refl; closing = refl; more = refl; refused = refl; unlogged = refl; unclaimed_is = refl };
-  waits = refl; doom = refl; less = refl }
+  leaves = record {
+    tables = refl;
+    records = refl;
+    changes = refl;
+    unit = refl;
+    marks = refl;
+    begun = refl;
+    entries = refl;
+    line = refl;
+    setting = refl;
+    floor = refl;
+    ended = refl;
+    closing = refl;
+    more = refl;
+    refused = refl;
+    unlogged = refl;
+    unclaimed_is = refl;
+  };
+  waits = refl;
+  doom = refl;
+  less = refl;
+}
 bare-is head w c (Refused code) e = record {
-  leaves = record { tables = refl; records = refl; changes = refl; unit = refl; marks = refl; begun = refl; entries = refl; line = refl;
-    setting = refl; floor = refl; ended = refl; closing = refl; more = refl; refused = refl; unlogged = refl; unclaimed_is = refl };
-  waits = refl; doom = refl; less = refl }
+  leaves = record {
+    tables = refl;
+    records = refl;
+    changes = refl;
+    unit = refl;
+    marks = refl;
+    begun = refl;
+    entries = refl;
+    line = refl;
+    setting = refl;
+    floor = refl;
+    ended = refl;
+    closing = refl;
+    more = refl;
+    refused = refl;
+    unlogged = refl;
+    unclaimed_is = refl;
+  };
+  waits = refl;
+  doom = refl;
+  less = refl;
+}
 bare-is head w c _ e = absurd (cc)
 
 -- the unit's parts stay
@@ -211,17 +363,80 @@ pub record IsQueued (head : Head) (w : World) (c : Conn) (a : Act) : Type 0 wher
 
 pub queued-is : (head : Head) (w : World) (c : Conn) (a : Act) → queues a ≡ true → IsQueued head w c a
 queued-is head w c (Lock n m t why (Got.Queued to)) e = record {
-  leaves = record { tables = refl; records = refl; changes = refl; unit = refl; marks = refl; begun = refl; entries = refl; line = refl;
-    setting = refl; floor = refl; ended = refl; closing = refl; more = refl; refused = refl; unlogged = refl; unclaimed_is = locks-none why (Got.Queued to) n m };
-  wait = record { name = n; conn = c; target = to; term = t }; own = refl; waits = refl; doom = refl; less = refl }
+  leaves = record {
+    tables = refl;
+    records = refl;
+    changes = refl;
+    unit = refl;
+    marks = refl;
+    begun = refl;
+    entries = refl;
+    line = refl;
+    setting = refl;
+    floor = refl;
+    ended = refl;
+    closing = refl;
+    more = refl;
+    refused = refl;
+    unlogged = refl;
+    unclaimed_is = locks-none why (Got.Queued to) n m;
+  };
+  wait = record { name = n; conn = c; target = to; term = t };
+  own = refl;
+  waits = refl;
+  doom = refl;
+  less = refl;
+}
 queued-is head w c (Look t r want (Got.Queued to)) e = record {
-  leaves = record { tables = refl; records = refl; changes = refl; unit = refl; marks = refl; begun = refl; entries = refl; line = refl;
-    setting = refl; floor = refl; ended = refl; closing = refl; more = refl; refused = refl; unlogged = refl; unclaimed_is = refl };
-  wait = record { name = Row t r; conn = c; target = to; term = wait_term want }; own = refl; waits = refl; doom = refl; less = refl }
+  leaves = record {
+    tables = refl;
+    records = refl;
+    changes = refl;
+    unit = refl;
+    marks = refl;
+    begun = refl;
+    entries = refl;
+    line = refl;
+    setting = refl;
+    floor = refl;
+    ended = refl;
+    closing = refl;
+    more = refl;
+    refused = refl;
+    unlogged = refl;
+    unclaimed_is = refl;
+  };
+  wait = record { name = Row t r; conn = c; target = to; term = wait_term want };
+  own = refl;
+  waits = refl;
+  doom = refl;
+  less = refl;
+}
 queued-is head w c (Next i range at guarded (Stand.Queued n)) e = record {
-  leaves = record { tables = refl; records = refl; changes = refl; unit = refl; marks = refl; begun = refl; entries = refl; line = refl;
-    setting = refl; floor = refl; ended = refl; closing = refl; more = refl; refused = refl; unlogged = refl; unclaimed_is = refl };
-  wait = record { name = n; conn = c; target = target w.holds c n S; term = Kept }; own = refl; waits = refl; doom = refl; less = refl }
+  leaves = record {
+    tables = refl;
+    records = refl;
+    changes = refl;
+    unit = refl;
+    marks = refl;
+    begun = refl;
+    entries = refl;
+    line = refl;
+    setting = refl;
+    floor = refl;
+    ended = refl;
+    closing = refl;
+    more = refl;
+    refused = refl;
+    unlogged = refl;
+    unclaimed_is = refl;
+  };
+  wait = record { name = n; conn = c; target = target w.holds c n S; term = Kept };
+  own = refl;
+  waits = refl;
+  doom = refl;
+  less = refl;
+}
 queued-is head w c _ e = absurd (cc)
 
 -- one that timed out dooms its connection
@@ -233,17 +448,74 @@ pub record IsTimedOut (head : Head) (w : World) (c : Conn) (a : Act) : Type 0 wh
 
 pub timed_out-is : (head : Head) (w : World) (c : Conn) (a : Act) → times_out a ≡ true → IsTimedOut head w c a
 timed_out-is head w c (Lock n m t why Got.TimedOut) e = record {
-  leaves = record { tables = refl; records = refl; changes = refl; unit = refl; marks = refl; begun = refl; entries = refl; line = refl;
-    setting = refl; floor = refl; ended = refl; closing = refl; more = refl; refused = refl; unlogged = refl; unclaimed_is = locks-none why Got.TimedOut n m };
-  waits = refl; doom = refl; less = refl }
+  leaves = record {
+    tables = refl;
+    records = refl;
+    changes = refl;
+    unit = refl;
+    marks = refl;
+    begun = refl;
+    entries = refl;
+    line = refl;
+    setting = refl;
+    floor = refl;
+    ended = refl;
+    closing = refl;
+    more = refl;
+    refused = refl;
+    unlogged = refl;
+    unclaimed_is = locks-none why Got.TimedOut n m;
+  };
+  waits = refl;
+  doom = refl;
+  less = refl;
+}
 timed_out-is head w c (Look t r want Got.TimedOut) e = record {
-  leaves = record { tables = refl; records = refl; changes = refl; unit = refl; marks = refl; begun = refl; entries = refl; line = refl;
-    setting = refl; floor = refl; ended = refl; closing = refl; more = refl; refused = refl; unlogged = refl; unclaimed_is = refl };
-  waits = refl; doom = refl; less = refl }
+  leaves = record {
+    tables = refl;
+    records = refl;
+    changes = refl;
+    unit = refl;
+    marks = refl;
+    begun = refl;
+    entries = refl;
+    line = refl;
+    setting = refl;
+    floor = refl;
+    ended = refl;
+    closing = refl;
+    more = refl;
+    refused = refl;
+    unlogged = refl;
+    unclaimed_is = refl;
+  };
+  waits = refl;
+  doom = refl;
+  less = refl;
+}
 timed_out-is head w c (Next i range at guarded (Stand.TimedOut n)) e = record {
-  leaves = record { tables = refl; records = refl; changes = refl; unit = refl; marks = refl; begun = refl; entries = refl; line = refl;
-    setting = refl; floor = refl; ended = refl; closing = refl; more = refl; refused = refl; unlogged = refl; unclaimed_is = refl };
-  waits = refl; doom = refl; less = refl }
+  leaves = record {
+    tables = refl;
+    records = refl;
+    changes = refl;
+    unit = refl;
+    marks = refl;
+    begun = refl;
+    entries = refl;
+    line = refl;
+    setting = refl;
+    floor = refl;
+    ended = refl;
+    closing = refl;
+    more = refl;
+    refused = refl;
+    unlogged = refl;
+    unclaimed_is = refl;
+  };
+  waits = refl;
+  doom = refl;
+  less = refl;
+}
 timed_out-is head w c _ e = absurd (cc)
 
 -- the desk of a running connection that queues

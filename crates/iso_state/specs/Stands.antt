@@ -81,7 +81,6 @@ pub record IsDeskOf (w : World) (c : Conn) (d : Desk) : Type 0 where
 abbrev pub DesksStand : List Desk → World → Type 0
 DesksStand desks w = (c : Conn) → c.0 < length desks → IsDeskOf w c (desk_at desks c)
 
-
 -- its limits, and the tables of the indexes, are the head's
 pub record IsLimitedBy (head : Head) (l : Ledger) : Type 0 where
   pub share : l.share ≡ lock_share head.config
