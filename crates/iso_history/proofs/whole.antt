@@ -4,3 +4,4 @@ pub mod Journal
 pub mod Guarded
 pub mod Looking
 pub mod Locks
+pub mod Pressed
