@@ -2,6 +2,10 @@
 #![tactic(auto)]
 
 mod choosing;
+mod claiming;
+mod freeing;
 mod locking;
 
+pub use claiming::{StepClaim, claim};
+pub use freeing::{collapse, free};
 pub use locking::{Answer, escalate, lock};

@@ -1,4 +1,4 @@
-use Rattle.std.proofs.Common.{◌≡◌, ◌≤◌, ◌<◌, ◌+◌, ℕ, length, subst, sym, arith, Some}
+use Rattle.std.proofs.Common.{◌≡◌, ◌+◌, ℕ, length, subst, sym, arith, Some}
 use Rattle.iso_locklist.specs.Lists.{IsSingleIn}
 use Rattle.iso_queue.specs.Limits.{weight}
 use Rattle.iso_state.specs.Stands.{world_of}

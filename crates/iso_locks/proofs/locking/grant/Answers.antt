@@ -1,12 +1,10 @@
 use Rattle.std.proofs.Common.{◌∙◌, ap, refl}
-use Rattle.iso_history.specs.Makers.{by_agent}
-use Rattle.iso_history.specs.declared.entry.Act.{Act}
 use Rattle.iso_history.specs.declared.entry.Act.TheVariants.{Lock}
 use Rattle.iso_history.specs.declared.entry.Entry.{Entry}
 use Rattle.iso_history.specs.declared.entry.Got.{Got}
 use Rattle.iso_modes.specs.declared.Term.TheVariants.{Kept}
 use Rattle.iso_state.specs.Changes.{entered, relocked}
-use Rattle.iso_state.specs.Stands.{Content, content_of, world_of}
+use Rattle.iso_state.specs.Stands.{Content, content_of}
 use Rattle.iso_state.proofs.ByKind.{bare-full, bare-place, fault-was, spends-after}
 use Rattle.iso_locks.proofs.locking.grant.Goals as goal
 

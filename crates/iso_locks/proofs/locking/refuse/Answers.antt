@@ -1,5 +1,4 @@
-use Rattle.std.proofs.Common.{refl, None}
-use Rattle.iso_history.specs.declared.entry.Act.{Act}
+use Rattle.std.proofs.Common.{refl}
 use Rattle.iso_history.specs.declared.entry.Act.TheVariants.{Refused}
 use Rattle.iso_history.specs.Writes.{minus}
 use Rattle.iso_state.specs.Stands.{world_of}

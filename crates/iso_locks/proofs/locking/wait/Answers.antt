@@ -1,5 +1,4 @@
-use Rattle.std.proofs.Common.{◌∙◌, ap, refl, None, false}
-use Rattle.iso_history.specs.declared.entry.Act.{Act}
+use Rattle.std.proofs.Common.{◌∙◌, ap, refl, false}
 use Rattle.iso_history.specs.declared.entry.Act.TheVariants.{Lock}
 use Rattle.iso_history.specs.declared.entry.Entry.{Entry}
 use Rattle.iso_history.specs.declared.entry.Got.{Got}
