@@ -1,7 +1,7 @@
-use Rattle.std.proofs.Common.{◌≡◌, ◌≤◌, ◌+◌, ◌-◌, ◌∙◌, ℕ, List, arith, length, ap, sym, subst, refl, false}
+use Rattle.std.proofs.Common.{◌≡◌, ◌+◌, ◌-◌, ◌∙◌, ℕ, arith, ap, sym, subst, false}
 use Rattle.iso_chain.specs.Writes.{committed}
 use Rattle.iso_history.specs.Makers.{by_agent}
-use Rattle.iso_history.specs.Records.{left, left_of}
+use Rattle.iso_history.specs.Records.{left}
 use Rattle.iso_history.specs.Units.{unit_of}
 use Rattle.iso_history.specs.declared.entry.Act.TheVariants.{Commit}
 use Rattle.iso_locklist.specs.Places.{IsSameLimits, Ledger}
