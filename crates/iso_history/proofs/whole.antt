@@ -5,3 +5,4 @@ pub mod Guarded
 pub mod Looking
 pub mod Locks
 pub mod Pressed
+pub mod PressedWrites
