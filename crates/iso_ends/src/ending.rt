@@ -1,3 +1,5 @@
+//! The ends of units of work: commit, rollback, and a connection's end.
+
 ghost use Rattle.std.specs.Prelude.{◌≡◌, ◌<◌, ◌++◌, [], ◌∷◌, List, length, false, if◌then◌else◌};
 ghost use Rattle.iso_history.specs.Legal.{RollbackStands, Runs};
 ghost use Rattle.iso_history.specs.Makers.{by_agent};
