@@ -1,3 +1,5 @@
+//! Answers to statements, and the settings of a connection.
+
 ghost use Rattle.std.specs.Prelude.{◌≡◌, ◌<◌, ◌++◌, [], ◌∷◌, length, false, true, Err, OnOk, OnErr};
 ghost use Rattle.iso_history.specs.Legal.{Runs};
 ghost use Rattle.iso_history.specs.Makers.{by_agent};
@@ -56,12 +58,7 @@ pub fn reply(
 /// Gives a running connection another isolation level for its statements, and says whether its requests may wait.
 /// `HistoryFull`: its entry would be full. After a fault all is as before. Db2 LUW, 'SET CURRENT ISOLATION', 'SET CURRENT
 /// LOCK TIMEOUT'.
-pub fn set(
-    parts: &mut Parts,
-    conn: Conn,
-    level: Isolation,
-    may_wait: bool,
-) -> Result<(), StepFault>
+pub fn set(parts: &mut Parts, conn: Conn, level: Isolation, may_wait: bool) -> Result<(), StepFault>
     requires stands { StandsFor parts.old }
     requires open { (world_of parts.old).pace.finished ≡ false }
     requires conn { conn.0 < length parts.old.head.conns }

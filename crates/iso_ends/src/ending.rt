@@ -1,13 +1,30 @@
-ghost use Rattle.std.specs.Prelude.{◌≡◌, ◌<◌, ◌++◌, [], ◌∷◌, length, false, if◌then◌else◌};
+//! The ends of units of work: commit, rollback, and a connection's end.
+
+ghost use Rattle.std.specs.Prelude.{◌≡◌, ◌<◌, ◌++◌, [], ◌∷◌, List, length, false, if◌then◌else◌};
 ghost use Rattle.iso_history.specs.Legal.{RollbackStands, Runs};
 ghost use Rattle.iso_history.specs.Makers.{by_agent};
 ghost use Rattle.iso_history.specs.Phases.{is_phase, phase};
 ghost use Rattle.iso_history.specs.Records.{left_of};
+ghost use Rattle.iso_locklist.specs.Holding.{LocksAre};
+ghost use Rattle.iso_locklist.specs.Places.{IsSameLimits};
+ghost use Rattle.iso_queue.specs.Locks.{Hold, dropped};
+ghost use Rattle.iso_queue.specs.Queues.{Wait, unqueued};
 ghost use Rattle.iso_state.specs.Stands.{StandsFor, content_of, world_of};
 
 use iso_history::{Act, Entry, Who};
+use iso_locklist::LockList;
 use iso_state::{Parts, desk_of, move_to, write_commit};
 use iso_types::{Conn, Desk, Phase};
+
+/// Gives back all locks of a connection, and ends its wait.
+fn give_up(locks: &mut LockList, conn: Conn)
+    requires conn { conn.0 < 32 }
+    ensures lists { (hs : List Hold) (xs : List Wait) → LocksAre hs xs locks.old → LocksAre (dropped conn hs) (unqueued conn xs) locks.new }
+    ensures limits { IsSameLimits locks.new locks.old }
+{
+    locks.release_all(conn);
+    locks.cancel(conn);
+}
 
 /// Commits the unit of a running connection: its locks go, its statement is answered, and the connection is idle. It costs as
 /// much as the unit has records, takes no memory and is never refused. Db2 LUW, 'COMMIT'.
@@ -22,8 +39,7 @@ pub fn commit(parts: &mut Parts, conn: Conn)
 {
     let left = write_commit(parts, conn);
     parts.reserved -= left + 2;
-    parts.locks.release_all(conn);
-    parts.locks.cancel(conn);
+    give_up(&mut parts.locks, conn);
     let desk = Desk {
         phase: Phase::Idle,
         claimed: false,
@@ -70,8 +86,7 @@ pub fn rollback_end(parts: &mut Parts, conn: Conn, code: i32, reason: u8)
     let was = desk_of(parts, conn);
     parts.reserved -= kept_until_rollback(was.phase);
     parts.units.finish(conn);
-    parts.locks.release_all(conn);
-    parts.locks.cancel(conn);
+    give_up(&mut parts.locks, conn);
     let desk = Desk {
         phase: Phase::Idle,
         doom: 0,
@@ -95,8 +110,7 @@ pub fn ended(parts: &mut Parts, conn: Conn)
 {
     parts.reserved -= 3;
     parts.units.finish(conn);
-    parts.locks.release_all(conn);
-    parts.locks.cancel(conn);
+    give_up(&mut parts.locks, conn);
     let desk = Desk {
         phase: Phase::Ended,
         claimed: false,

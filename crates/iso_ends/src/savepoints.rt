@@ -1,5 +1,6 @@
+//! Savepoints: they are set, and a unit goes back to them.
+
 ghost use Rattle.std.specs.Prelude.{◌≡◌, ◌<◌, ◌++◌, [], ◌∷◌, ℕ, length, false, true, None, Some, Ok, Err, IsTrue, IfOk, OnOk, OnErr, is_some};
-ghost use Rattle.iso_chain.specs.Writes.{own_work};
 ghost use Rattle.iso_history.specs.Legal.{Runs};
 ghost use Rattle.iso_history.specs.Makers.{by_agent};
 ghost use Rattle.iso_history.specs.Marks.{mark_of};
@@ -7,8 +8,7 @@ ghost use Rattle.iso_history.specs.Stops.{is_full};
 ghost use Rattle.iso_state.specs.Changes.{rechained};
 ghost use Rattle.iso_state.specs.Stands.{StandsFor, content_of, world_of};
 ghost use Rattle.iso_state.specs.Steps.{KeepsRoom};
-ghost use Rattle.iso_uow.specs.Savepoints.{set_again};
-ghost use Rattle.iso_ends.specs.Ends.{with_savepoints};
+ghost use Rattle.iso_ends.specs.Ends.{with_mark};
 
 use iso_history::{Act, Entry, Who};
 use iso_state::{Parts, enter, make_room};
@@ -19,8 +19,7 @@ fn write_mark(parts: &mut Parts, conn: Conn, name: Text) -> Result<(), StepFault
     requires stands { StandsFor parts.old }
     requires conn { conn.0 < length parts.old.head.conns }
     requires runs { Runs (world_of parts.old) conn }
-    ensures ok { OnOk result (content_of parts.new ≡ rechained (content_of parts.old)
-        (with_savepoints (content_of parts.old).chain conn (set_again (own_work (content_of parts.old).chain conn).marks name (length (content_of parts.old).chain.log)))) }
+    ensures ok { OnOk result (content_of parts.new ≡ rechained (content_of parts.old) (with_mark (content_of parts.old).chain conn name)) }
     ensures room { KeepsRoom parts.old parts.new }
     ensures err { OnErr result (content_of parts.new ≡ content_of parts.old) }
     ensures stands { OnErr result (StandsFor parts.new) }

@@ -1,3 +1,5 @@
+//! Stops: an agent or the dispatcher cannot go on.
+
 ghost use Rattle.std.specs.Prelude.{◌≡◌, ◌<◌, ◌++◌, [], ◌∷◌, length, false, IsTrue};
 ghost use Rattle.iso_history.specs.Legal.{By};
 ghost use Rattle.iso_history.specs.Makers.{by_agent, by_dispatcher};

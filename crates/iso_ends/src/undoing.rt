@@ -1,3 +1,5 @@
+//! The undo of the last record that a unit has left.
+
 ghost use Rattle.std.specs.Prelude.{◌≡◌, ◌≤◌, ◌<◌, ◌+◌, ◌++◌, [], ◌∷◌, ℕ, length, false, true, Some, IsTrue};
 ghost use Rattle.iso_chain.specs.Writes.{taken_back};
 ghost use Rattle.iso_history.specs.Legal.{may_undo};

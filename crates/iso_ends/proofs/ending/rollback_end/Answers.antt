@@ -6,12 +6,11 @@ use Rattle.iso_history.specs.Makers.{by_agent}
 use Rattle.iso_history.specs.Phases.{is_phase, phase}
 use Rattle.iso_history.specs.declared.entry.Act.TheVariants.{Rollback}
 use Rattle.iso_history.specs.declared.entry.Entry.{Entry}
-use Rattle.iso_queue.specs.Locks.{dropped}
 use Rattle.iso_types.specs.declared.desk.Desk.{Desk}
 use Rattle.iso_types.specs.declared.desk.Phase.{Phase}
 use Rattle.iso_types.specs.declared.desk.Phase.TheVariants.{Idle, Running}
 use Rattle.iso_uow.specs.declared.units.Work.{Work}
-use Rattle.iso_state.proofs.Steps.{limits-after, own-desk}
+use Rattle.iso_state.proofs.Steps.{own-desk}
 use Rattle.iso_state.specs.Changes.{seated}
 use Rattle.iso_state.specs.Stands.{Content, content_of, desk_at, world_of}
 use Rattle.iso_ends.specs.Ends.{without_unit}
@@ -34,8 +33,7 @@ pub returns-clause-stands : goal.returns-clause-stands
 returns-clause-stands c =
     let p = c.args.parts.now in
     let q = c.move_to.new.parts in
-    let mid = c.release_all.new.self in
-    let l = c.cancel.new.self in
+    let l = c.give_up.new.locks in
     let a = Rollback c.args.code c.args.reason in
     let by : ByAgent p.head (world_of p) c.args.conn a = (c.requires.ends, c.requires.left) in
     let covers = free-covers p c.args.conn a c.requires.stands c.requires.open c.requires.conn by refl in
@@ -51,9 +49,8 @@ returns-clause-stands c =
     (record (desk_at p.desks c.args.conn) { phase = Idle; doom = 0; claimed = false }) n (record { never = refl; unlogged = refl })
     spent.history (omega (arith, spent.log))
     (rollback-own k c.args.conn c.requires.stands.stands c.requires.conn l
-    (limits-after p.locks mid l c.release_all.ensures.limits c.cancel.ensures.limits) c.args.code c.args.reason c.requires.ends
-    (c.cancel.ensures.lists (dropped c.args.conn (world_of p).holds) (world_of p).waits
-    (c.release_all.ensures.lists (world_of p).holds (world_of p).waits c.requires.stands.parts.locks))
+    c.give_up.ensures.limits c.args.code c.args.reason c.requires.ends
+    (c.give_up.ensures.lists (world_of p).holds (world_of p).waits c.requires.stands.parts.locks)
     (omega (arith, covers)))
     (c.move_to.ensures.wrote
     ∙ ap (λ (n : ℕ). seated (record after_all { chain = record k.chain { book = record { begun = n; works = c.finish.new.self.works } } }) c.args.conn d0 c.rolled_back.result)
