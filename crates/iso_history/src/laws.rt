@@ -1,3 +1,5 @@
+//! Laws of every legal history, each as the contract of a function without a body.
+
 ghost use Rattle.std.specs.Prelude.{◌≡◌, ◌+◌, ◌≤◌, ◌<◌, ℕ, List, [], Some, true, false, length, take};
 ghost use Rattle.std.specs.List.{list_all};
 ghost use Rattle.iso_history.specs.After.{world};

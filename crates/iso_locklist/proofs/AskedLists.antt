@@ -143,7 +143,7 @@ module _ (old new : List Place) (c : Conn) (n : Name) (m : Mode) (t : Term) (was
               }
           same_holders e = rw e refl
 
-mode_by : (n : Name) (m : Mode) (o : Option Hold) (r : Option locks.Hold) → r ≡ option_map (named_hold n) o
+pub mode_by : (n : Name) (m : Mode) (o : Option Hold) (r : Option locks.Hold) → r ≡ option_map (named_hold n) o
     → option_map_or (λ (h : Hold). mode_eq (joined h.mode m) h.mode) o false
     ≡ option_map_or (mode_eq (option_map_or (λ (a : Mode). joined a m) (option_map (λ (h : locks.Hold). h.mode) r) m)) (option_map (λ
     (h : locks.Hold). h.mode) r) false

@@ -1,11 +1,12 @@
 -- A lock list that stands for holds and waits: what is seen of it, and what is done to it, by the line of each name.
-use Rattle.std.proofs.Common.{◌≡◌, ◌≤◌, Bool, true, false, not, ◌&&◌, ◌||◌, List, [], ◌∷◌, map, refl, ap, sym, subst, ◌∙◌, arith}
+use Rattle.std.proofs.Common.{ℕ, ◌≡◌, ◌≤◌, Bool, true, false, not, ◌&&◌, ◌||◌, List, [], ◌∷◌, map, refl, ap, sym, subst, ◌∙◌, arith}
 use Rattle.std.specs.List.{list_any}
 use Rattle.std.specs.Option.{option_map, option_map_or}
 use Rattle.std.specs.Prelude.{count_by, filter, find, if◌then◌else◌, is_some, take_while, ◌++◌, Option, None, Some}
-use Rattle.iso_locklist.specs.Holding.{AreLines, AreOfHead, WaitsOnce, settled_beside}
+use Rattle.iso_locklist.specs.Holding.{AreLines, AreOfHead, WaitsOnce, holds_mode, need_in, room_asked, room_in_lists, settled_beside}
 use Rattle.iso_locklist.specs.Lists.{HoldsAlike, IsAsked, IsClaimed, IsSingleIn, WaitsAlike, asked_for, claimed_holds, claimed_waits, grants_in, holds_in, named_hold, named_wait, waiting_for, waits_in}
-use Rattle.iso_locklist.specs.Places.{all_taken, are_apart, cancelled, edges_in, is_grantable_in, is_in, is_spared as spares, line_at, names, nobody, one, released, taken, wait_in}
+use Rattle.iso_locklist.specs.Places.{all_taken, are_apart, cancelled, edges_in, is_grantable_in, is_in, is_spared as spares, line_at, names, nobody, one, released, taken, wait_in, Ledger, need_of, room_by, room_to_ask}
+use Rattle.iso_locklist.specs.declared.room.Room.TheVariants.{Free}
 use Rattle.iso_locklist.specs.declared.places.Place.{Place}
 use Rattle.iso_locklist.proofs.Alike.{alike_count, alike_filter, swap}
 use Rattle.iso_locklist.proofs.AlikeClaims.{alike_claimed_holds, alike_claimed_waits}
@@ -15,7 +16,7 @@ use Rattle.iso_locklist.proofs.Lists.{any_map, any_seek, holds_of_name, is_hold,
 use Rattle.iso_locklist.proofs.Names.{name_same}
 use Rattle.iso_locklist.proofs.Settles.{gone, kept}
 use Rattle.iso_locklist.proofs.SettledLists.{brief_goes, briefs_settled, briefs_were}
-use Rattle.iso_locklist.proofs.AskedLists.{granted_told}
+use Rattle.iso_locklist.proofs.AskedLists.{granted_told, mode_by}
 use Rattle.iso_locklist.proofs.Blockers.{edges_is}
 use Rattle.iso_locklist.proofs.SingleLists.{single_in}
 use Rattle.iso_locklist.proofs.Totals.{total_in_lists}
@@ -255,7 +256,7 @@ module _ (ps : List Place) (unlike : are_apart (names ps) ≡ true) (hs : List H
   one_waits : (c : Conn) → WaitsOnce xs c → count_by (own c) (waits_in ps) ≤ 1
   one_waits c once = omega (arith, waits_count c, once)
 
-  single_here : (c : Conn) → IsSingleIn hs xs c → IsSingleIn (holds_in ps) (waits_in ps) c
+  pub single_here : (c : Conn) → IsSingleIn hs xs c → IsSingleIn (holds_in ps) (waits_in ps) c
   single_here c single = record {
     holds = λ n. omega (arith, alike_count (λ h. h.name) (is_hold_of c n) (holds_in ps) hs holds_like, single.holds n);
     waits = one_waits c single.waits;
@@ -305,6 +306,32 @@ module _ (ps : List Place) (unlike : are_apart (names ps) ≡ true) (hs : List H
       total_in_lists head ps unlike of_head.few (λ d. single_in ps d unlike (single_here d (of_head.single d)))
       (λ d none. taken_shown d (of_head.single d) ∙ of_head.conns d none)
       ∙ alike_all_taken (holds_in ps) hs holds_like (waits_in ps) xs waits_like head (λ d. one_waits d (of_head.single d).waits)
+
+  -- whether the mode is held, and what a request needs
+  mode_shown : (c : Conn) (n : Name) (m : Mode) → lines.has_mode (line_at ps n).holders c m ≡ holds_mode hs c n m
+  mode_shown c n m = mode_by n m (hold_of (line_at ps n).holders c) (hold_on hs c n) (sym (hold_shown hs xs (line_at ps) are c n))
+
+  some_map : {X Y : Type 0} (f : X → Y) (o : Option X) → is_some (option_map f o) ≡ is_some o
+  some_map f None = refl
+  some_map f (Some x) = refl
+
+  need_shown : (c : Conn) (n : Name) → need_of ps c n ≡ need_in hs xs c n
+  need_shown c n =
+      ap (λ (b : Bool). if b || lines.is_waiter (line_at ps n).waiters c then 0 else 1)
+      (sym (some_map (named_hold n) (hold_of (line_at ps n).holders c)) ∙ ap (λ (o : Option Hold). is_some o) (hold_shown hs xs (line_at ps) are c n))
+      ∙ ap (λ (b : Bool). if locks.is_held hs c n || b then 0 else 1)
+      (sym (some_map (named_wait n) (lines.waiter_of (line_at ps n).waiters c))
+      ∙ ap (λ (o : Option Wait). is_some o)
+      (sym (seek_map (own c) (named_wait n) (line_at ps n).waiters) ∙ ap (find (own c)) (are.waits n)))
+
+  pub room_shown : (l : Ledger) → l.places ≡ ps → (head : Head) → AreOfHead head hs xs → (c : Conn) (n : Name) (m : Mode)
+      → room_to_ask l c n m ≡ room_asked head l hs xs c n m
+  room_shown l same head of_head c n m =
+      ap (λ (qs : List Place). if lines.has_mode (line_at qs n).holders c m then Free else room_by (taken qs c) (all_taken qs) l.share l.slots (need_of qs c n)) same
+      ∙ ap (λ (b : Bool). if b then Free else room_by (taken ps c) (all_taken ps) l.share l.slots (need_of ps c n)) (mode_shown c n m)
+      ∙ ap (λ (k : ℕ). if holds_mode hs c n m then Free else room_by k (all_taken ps) l.share l.slots (need_of ps c n)) (taken_shown c (of_head.single c))
+      ∙ ap (λ (k : ℕ). if holds_mode hs c n m then Free else room_by (limits.taken hs xs c) k l.share l.slots (need_of ps c n)) (total_shown head of_head)
+      ∙ ap (λ (k : ℕ). if holds_mode hs c n m then Free else room_in_lists head l hs xs c k) (need_shown c n)
 
 -- the lists of places that stand for what is alike
 pub alike_are : (ps : List Place) → are_apart (names ps) ≡ true → (hs : List Hold) (xs : List Wait) → HoldsAlike (holds_in ps) hs → WaitsAlike (waits_in ps) xs

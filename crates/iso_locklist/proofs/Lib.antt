@@ -16,7 +16,6 @@ pub mod Ordered
 pub mod Shown
 pub mod AlikeSnapshots
 pub mod Totals
-pub mod Ends
 pub mod Alike
 pub mod AlikeHolds
 pub mod AlikeWaits
@@ -27,4 +26,4 @@ pub mod SingleLists
 pub mod AlikeClaims
 pub mod Holding
 pub mod NewNames
-pub mod Weighing
+pub mod Weighed

@@ -6,6 +6,7 @@ use Rattle.iso_locklist.specs.Lists.{IsHeadsIn, IsSingleIn, asked_for, named_hol
 use Rattle.iso_locklist.specs.Places.{Ledger, line_at, room_by}
 use Rattle.iso_locklist.specs.declared.places.Asking.{Asking}
 use Rattle.iso_locklist.specs.declared.room.Room.{Room}
+use Rattle.iso_locklist.specs.declared.room.Room.TheVariants.{Free}
 use Rattle.iso_modes.specs.Modes.{mode_eq}
 use Rattle.iso_modes.specs.Terms.{is_brief}
 use Rattle.iso_modes.specs.declared.Mode.{Mode}
@@ -13,8 +14,8 @@ use Rattle.iso_modes.specs.declared.Term.{Term}
 use Rattle.iso_modes.specs.declared.Term.TheVariants.{Kept}
 use Rattle.iso_queue.specs.Limits.{all_taken, taken}
 use Rattle.iso_queue.specs.Lines.{Line}
-use Rattle.iso_queue.specs.Locks.{Hold, added, held, settled_one, target}
-use Rattle.iso_queue.specs.Queues.{Wait, queue, queued}
+use Rattle.iso_queue.specs.Locks.{Hold, added, held, is_held, settled_one, target}
+use Rattle.iso_queue.specs.Queues.{Wait, is_waiting, queue, queued}
 use Rattle.iso_types.specs.Ids.{conn_eq, name_eq}
 use Rattle.iso_types.specs.declared.head.Head.{Head}
 use Rattle.iso_types.specs.declared.head.IndexDef.{IndexDef}
@@ -49,6 +50,14 @@ room_in_lists head l hs xs c k = room_by (taken hs xs c) (all_taken head hs xs) 
 -- the connection has one wait at most
 abbrev pub WaitsOnce : List Wait → Conn → Type 0
 WaitsOnce xs c = count_by (λ x. conn_eq x.conn c) xs ≤ 1
+
+-- a request needs a name more, or none where the connection holds or awaits the name
+abbrev pub need_in : List Hold → List Wait → Conn → Name → ℕ
+need_in hs xs c n = if is_held hs c n || is_waiting (queue xs n) c then 0 else 1
+
+-- the room for a request: where the connection holds the mode already it needs none
+abbrev pub room_asked : Head → Ledger → List Hold → List Wait → Conn → Name → Mode → Room
+room_asked head l hs xs c n m = if holds_mode hs c n m then Free else room_in_lists head l hs xs c (need_in hs xs c n)
 
 -- no connection holds a name twice or has two waits, and none but the head's, at most 32, holds or awaits one
 pub record AreOfHead (head : Head) (hs : List Hold) (xs : List Wait) : Type 0 where

@@ -44,10 +44,6 @@ pub record IsSingle (ps : List Place) (c : Conn) : Type 0 where
 abbrev pub IsHeads : Head → List Place → Type 0
 IsHeads head ps = (c : Conn) → is_conn head c ≡ false → taken ps c ≡ 0
 
--- a connection that was so still is
-abbrev pub StaySingle : List Place → List Place → Type 0
-StaySingle old new = (c : Conn) → IsSingle old c → IsSingle new c
-
 -- of each name the same holds, in the same order
 abbrev pub HoldsAlike : List locks.Hold → List locks.Hold → Type 0
 HoldsAlike xs ys = (n : Name) → filter (λ h. name_eq h.name n) xs ≡ filter (λ h. name_eq h.name n) ys

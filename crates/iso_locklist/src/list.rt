@@ -1,9 +1,10 @@
-ghost use Rattle.std.specs.Prelude.{drop, List, ◌≡◌, ◌<◌, ◌≤◌, [], IfOk, OnOk, OnErr, false, if◌then◌else◌, None, count_by, filter, length, map, slice_index_or, slice_set};
-ghost use Rattle.iso_locklist.specs.Holding.{AreAsked, AreNew, AreOfHead, IsNew, all_added, HasTables, LocksAre, WaitsOnce, room_in_lists, settled_beside};
-ghost use Rattle.iso_locklist.specs.Lists.{asked_for, IsHeads, IsHeadsIn, IsSingle, IsSingleIn, StaySingle, claimed_holds, claimed_waits, grants_in, holds_in, named_hold, named_wait, waits_in};
-ghost use Rattle.iso_locklist.specs.Places.{IsLimited, IsSameLimits, all_taken, cancelled, each_line, edges_in, is_covered, is_grantable_in, is_spared, line_at, need_of, released, room_for, room_to_ask, taken, wait_in, weighs, changed, changed_in};
+ghost use Rattle.std.specs.Prelude.{drop, List, ◌≡◌, ◌<◌, ◌≤◌, [], IfOk, OnOk, OnErr, false, if◌then◌else◌, None, length, map, slice_index_or, slice_set};
+ghost use Rattle.iso_locklist.specs.Holding.{AreAsked, AreNew, AreOfHead, IsNew, all_added, HasTables, LocksAre, WaitsOnce, room_asked, room_in_lists, settled_beside};
+ghost use Rattle.iso_locklist.specs.Lists.{asked_for, IsSingleIn, claimed_holds, claimed_waits, grants_in, named_hold};
+ghost use Rattle.iso_locklist.specs.Places.{IsLimited, IsSameLimits, all_taken, cancelled, each_line, edges_in, is_covered, is_grantable_in, is_spared, line_at, released, room_for, room_to_ask, taken, wait_in, changed, changed_in};
+ghost use Rattle.iso_locklist.specs.Weights.{weight_in};
 ghost use Rattle.iso_locklist.specs.declared.places.Place.{Place as Entry};
-ghost use Rattle.iso_queue.specs.Lines.{asked, bits_of, claimed, hold_of, is_granted, is_guarded_against, is_used, settled, wait_for, would_wait};
+ghost use Rattle.iso_queue.specs.Lines.{asked, bits_of, claimed, hold_of, is_granted, is_guarded_against, is_used, settled};
 ghost use Rattle.iso_queue.specs.Locks.{Hold as Held, added, collapsed, dropped, freed, hold_on, others_guard, without_briefs};
 ghost use Rattle.iso_queue.specs.Limits as limits;
 ghost use Rattle.iso_modes.specs.declared.Term.TheVariants as Terms;
@@ -16,7 +17,6 @@ ghost use Rattle.std.specs.Option.{option_map, option_map_or};
 ghost use Rattle.iso_queue.specs.declared.types.Asked.{Asked as Outcome};
 ghost use Rattle.iso_queue.specs.declared.types.Claimed.{Claimed as Answer};
 ghost use Rattle.iso_types.specs.Ids.{conn_eq, name_eq};
-ghost use Rattle.iso_types.specs.declared.value.Conn.{Conn as Who};
 ghost use Rattle.iso_types.specs.declared.value.Name.{Name as Other};
 ghost use Rattle.iso_types.specs.Head.{lock_share, lock_slots};
 ghost use Rattle.iso_types.specs.declared.head.Head.{Head as Declared};
@@ -28,7 +28,7 @@ use crate::places::{
 };
 use crate::room::{LockFault, Room, room_beside, room_in};
 use crate::snapshot::{in_order, list_lines};
-use crate::weights::weight_in;
+use crate::weights::weight;
 use iso_modes::{Mode, Term, covers};
 use iso_queue::{Asked, Claimed, Hold, LockLine};
 use iso_types::{Conn, Edges, Head, Items, Memory, Name, TableId};
@@ -107,6 +107,16 @@ impl LockList {
         self.room_at(conn, more)
     }
 
+    /// How many holds the connection has on the rows and keys of the table that are not Brief. Its cost is the number of
+    /// names, and of all who hold them. Db2 LUW, 'Lock escalation'; that Brief holds do not count is this project's own.
+    pub fn weight(&self, conn: Conn, table: TableId) -> u32
+        requires { conn.0 < 32 }
+        ensures { (head : Declared) (hs : List Held) (xs : List Awaiting) → HasTables head self.now → LocksAre hs xs self.now → IsSingleIn hs xs conn → result ≡ limits.weight head hs conn table }
+    {
+        let _ = &self.places;
+        self.weight_at(conn, table)
+    }
+
     /// The connection's hold on the name. Its cost is the number of names, and of those who hold the name.
     pub fn held(&self, conn: Conn, name: Name) -> Option<Hold>
         ensures { (hs : List Held) (xs : List Awaiting) → LocksAre hs xs self.now → option_map (named_hold name) result ≡ hold_on hs conn name }
@@ -149,15 +159,6 @@ impl LockList {
         self.can_claim_at(conn)
     }
 
-    /// How many locks on rows and keys of the table the connection holds, but Brief ones. Its cost is the number of names,
-    /// and of all who hold them. Db2 LUW, 'Lock escalation'.
-    pub fn weight(&self, conn: Conn, table: TableId) -> usize
-        ensures { (head : Declared) (hs : List Held) (xs : List Awaiting) → HasTables head self.now → LocksAre hs xs self.now → IsSingleIn hs xs conn → result ≡ limits.weight head hs conn table }
-    {
-        let _ = &self.places;
-        self.weight_at(conn, table)
-    }
-
     /// The connections to which the connection's wait has an edge: each other holder of the name in a mode that does not
     /// go with the target, and each earlier waiter. Its cost is the number of names and of all who await them, and 32 times
     /// the number of those who hold or await the name.
@@ -198,15 +199,33 @@ impl LockList {
         term: Term,
     ) -> Result<Asked, LockFault>
         requires { conn.0 < 32 }
-        ensures limit { IsLimited (room_to_ask self.old conn name mode) result }
-        ensures answer { IfOk result (λ a. a ≡ (if is_granted (line_at self.old.places name) conn mode then Outcome.Granted else Outcome.Queued)) }
-        ensures line { OnOk result (line_at self.new.places name ≡ asked (line_at self.old.places name) conn mode term) }
-        ensures others { (n : Other) → name_eq name n ≡ false → line_at self.new.places n ≡ line_at self.old.places n }
+        ensures limit { (head : Declared) (hs : List Held) (xs : List Awaiting) → LocksAre hs xs self.old → AreOfHead head hs xs → IsLimited (room_asked head self.old hs xs conn name mode) result }
+        ensures answer { (hs : List Held) (xs : List Awaiting) → LocksAre hs xs self.old → is_waiting xs conn ≡ false → IfOk result (λ a. a ≡ (if grants_in hs xs conn name mode then Outcome.Granted else Outcome.Queued)) }
         ensures lists { (hs : List Held) (xs : List Awaiting) → LocksAre hs xs self.old → is_waiting xs conn ≡ false → OnOk result (AreAsked (grants_in hs xs conn name mode) hs xs conn name mode term self.new) }
         ensures limits { IsSameLimits self.new self.old }
         ensures err { OnErr result (self.new ≡ self.old) }
     {
-        let name = &name;
+        let _ = &self.places;
+        self.request_at(conn, &name, mode, term)
+    }
+
+    /// The same, told by the line of the name.
+    fn request_at(
+        &mut self,
+        conn: Conn,
+        name: &Name,
+        mode: Mode,
+        term: Term,
+    ) -> Result<Asked, LockFault>
+        requires { conn.0 < 32 }
+        ensures limit { IsLimited (room_to_ask self.old conn name.now mode) result }
+        ensures answer { IfOk result (λ a. a ≡ (if is_granted (line_at self.old.places name.now) conn mode then Outcome.Granted else Outcome.Queued)) }
+        ensures line { OnOk result (line_at self.new.places name.now ≡ asked (line_at self.old.places name.now) conn mode term) }
+        ensures others { (n : Other) → name_eq name.now n ≡ false → line_at self.new.places n ≡ line_at self.old.places n }
+        ensures lists { (hs : List Held) (xs : List Awaiting) → LocksAre hs xs self.old → is_waiting xs conn ≡ false → OnOk result (AreAsked (grants_in hs xs conn name.now mode) hs xs conn name.now mode term self.new) }
+        ensures limits { IsSameLimits self.new self.old }
+        ensures err { OnErr result (self.new ≡ self.old) }
+    {
         let at = conn.0 as usize;
         let need = need(&self.places, conn, name);
         let room = room_in(self.counts[at], self.total, self.share, self.slots, need);
@@ -422,13 +441,6 @@ impl LockList {
         }
     }
 
-    /// How many lines of the table's rows and keys the connection holds, but as Brief.
-    fn weight_at(&self, conn: Conn, table: TableId) -> usize
-        ensures { result ≡ length (filter (weighs self.now.index_tables conn table) self.now.places) }
-    {
-        weight_in(&self.places, self.index_tables.as_slice(), conn, table)
-    }
-
     /// Whether the connection waits in a line where its wait has no edge.
     fn can_claim_at(&self, conn: Conn) -> bool
         ensures { result ≡ is_grantable_in self.now.places conn }
@@ -449,6 +461,16 @@ impl LockList {
         ensures { result ≡ taken self.now.places conn }
     {
         self.counts[conn.0 as usize]
+    }
+
+    /// How many lines of the table's rows and keys have a hold of the connection that is not Brief.
+    fn weight_at(&self, conn: Conn, table: TableId) -> u32
+        requires { conn.0 < 32 }
+        ensures { result ≡ weight_in self.now conn table }
+    {
+        let weight = weight(&self.places, self.index_tables.as_slice(), conn, table);
+        prove!(weight <= self.counts[conn.0 as usize] as usize);
+        weight as u32
     }
 
     /// The sum of the counts.

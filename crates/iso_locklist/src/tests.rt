@@ -1,4 +1,4 @@
-use crate::{LockFault, LockList, Room};
+use crate::{Asking, LockFault, LockList, Room};
 use iso_modes::{LockState, Mode, Term};
 use iso_queue::{Asked, Claimed, LockLine};
 use iso_types::{
@@ -201,18 +201,24 @@ fn collapses_one_table(rt: HostRuntime) -> Result<(), Fail> {
         return Ok(());
     };
     let held = [
-        (A, Name::Table(TABLE), Mode::S, true),
-        (A, Name::Row(TABLE, Rid(0)), Mode::Ns, false),
-        (A, Name::Key(INDEX, Value::Int(30)), Mode::S, false),
-        (A, Name::End(INDEX), Mode::S, false),
-        (A, Name::Row(OTHER, Rid(0)), Mode::Ns, true),
-        (B, Name::Row(TABLE, Rid(0)), Mode::Ns, true),
+        (A, Name::Table(TABLE), Mode::Is),
+        (A, Name::Row(TABLE, Rid(0)), Mode::Ns),
+        (A, Name::Key(INDEX, Value::Int(30)), Mode::S),
+        (A, Name::End(INDEX), Mode::S),
+        (A, Name::Row(OTHER, Rid(0)), Mode::Ns),
+        (B, Name::Row(TABLE, Rid(0)), Mode::Ns),
     ];
-    for (conn, name, mode, _) in held {
-        assert!(rt; locks.request(conn, name, mode, Term::Kept) == Ok(Asked::Granted));
-    }
+    assert!(rt; requests(&mut locks, &held) == Ok(6));
     locks.collapse(A, TABLE);
-    for (conn, name, _, stays) in held {
+    let stay = [
+        (A, Name::Table(TABLE), true),
+        (A, Name::Row(TABLE, Rid(0)), false),
+        (A, Name::Key(INDEX, Value::Int(30)), false),
+        (A, Name::End(INDEX), false),
+        (A, Name::Row(OTHER, Rid(0)), true),
+        (B, Name::Row(TABLE, Rid(0)), true),
+    ];
+    for (conn, name, stays) in stay {
         assert!(rt; locks.held(conn, name).is_some() == stays);
     }
     assert!(rt; locks.count(A) == 2 && locks.total() == 3);
@@ -233,6 +239,37 @@ fn settles_beside_what_was_placed(rt: HostRuntime) -> Result<(), Fail> {
     assert!(rt; locks.held(A, Name::Row(TABLE, Rid(0))).is_none());
     let held = locks.held(A, Name::Row(TABLE, Rid(1)));
     assert!(rt; matches!(held, Some(hold) if hold.term == Term::Brief));
+    Ok(())
+}
+
+#[test]
+fn places_all_or_none(rt: HostRuntime) -> Result<(), Fail> {
+    let Ok(mut locks) = lock_list(rt.alloc()) else {
+        assert!(rt; false);
+        return Ok(());
+    };
+    let asks = [
+        Asking {
+            name: Name::Row(TABLE, Rid(20)),
+            mode: Mode::X,
+        },
+        Asking {
+            name: Name::End(INDEX),
+            mode: Mode::S,
+        },
+    ];
+    for rid in 0..10u32 {
+        let asked = locks.request(A, Name::Row(TABLE, Rid(rid)), Mode::Ns, Term::Kept);
+        assert!(rt; asked == Ok(Asked::Granted));
+    }
+    assert!(rt; locks.request_new(A, &asks) == Ok(()));
+    assert!(rt; locks.count(A) == 12);
+    locks.release(A, Name::Row(TABLE, Rid(20)));
+    locks.release(A, Name::End(INDEX));
+    let asked = locks.request(A, Name::Row(TABLE, Rid(10)), Mode::Ns, Term::Kept);
+    assert!(rt; asked == Ok(Asked::Granted));
+    assert!(rt; locks.request_new(A, &asks) == Err(LockFault::AtShare));
+    assert!(rt; locks.count(A) == 11 && locks.held(A, Name::Row(TABLE, Rid(20))).is_none());
     Ok(())
 }
 

@@ -1,51 +1,41 @@
-ghost use Rattle.std.specs.Option.{option_map_or};
-ghost use Rattle.std.specs.Prelude.{◌≡◌, not, false, filter, length};
-ghost use Rattle.iso_locklist.specs.Places.{weighs};
-ghost use Rattle.iso_modes.specs.Terms as terms;
-ghost use Rattle.iso_queue.specs.Lines.{hold_of};
+//! How many row and key holds a connection has on a table.
+ghost use Rattle.std.specs.Prelude.{◌≡◌, count_by};
+ghost use Rattle.iso_locklist.specs.Weights.{is_long, is_weighed};
 
 use crate::places::{Place, Scope, is_in};
 use iso_modes::Term;
+use iso_queue::Hold;
 use iso_types::{Conn, TableId};
 
-fn is_brief(term: Term) -> bool
-    ensures { result ≡ terms.is_brief term }
+/// Whether there is a hold, and it is not Brief.
+fn is_long(hold: Option<Hold>) -> bool
+    ensures { result ≡ is_long hold }
 {
-    term == Term::Brief
-}
-
-/// Whether the connection holds the place's name, and not as Brief.
-fn holds_long(place: &Place, conn: Conn) -> bool
-    ensures { result ≡ option_map_or (λ h. not (terms.is_brief h.term)) (hold_of place.now.queue.holders conn) false }
-{
-    match place.queue.hold(conn) {
-        Some(hold) => !is_brief(hold.term),
+    match hold {
+        Some(hold) => match hold.term {
+            Term::Brief => false,
+            Term::Kept | Term::Fresh => true,
+        },
         None => false,
     }
 }
 
-/// Whether the place's name is a row or key of the table that the connection holds, and not as Brief.
-fn weighs(index_tables: &[TableId], conn: Conn, table: TableId, place: &Place) -> bool
-    ensures { result ≡ weighs index_tables.now conn table place.now }
+/// Whether the place is that of a row or key of the table on which the connection has a hold that is not Brief.
+fn is_weighed(place: &Place, index_tables: &[TableId], conn: Conn, table: TableId) -> bool
+    ensures { result ≡ is_weighed index_tables.now conn table place.now }
 {
-    is_in(index_tables, &Scope::OnTable(table), &place.name) && holds_long(place, conn)
+    is_in(index_tables, &Scope::OnTable(table), &place.name) && is_long(place.queue.hold(conn))
 }
 
-/// How many such places there are.
-pub fn weight_in(
-    mut places: &[Place],
-    index_tables: &[TableId],
-    conn: Conn,
-    table: TableId,
-) -> usize
-    ensures { result ≡ length (filter (weighs index_tables.now conn table) places.entry.now) }
+/// How many of the places are such.
+pub fn weight(places: &[Place], index_tables: &[TableId], conn: Conn, table: TableId) -> usize
+    ensures { result ≡ count_by (is_weighed index_tables.now conn table) places.now }
 {
-    let mut count = 0;
-    while let [place, rest @ ..] = places {
-        if weighs(index_tables, conn, table, place) {
-            count += 1;
+    let mut weight = 0;
+    for place in places {
+        if is_weighed(place, index_tables, conn, table) {
+            weight += 1;
         }
-        places = rest;
     }
-    count
+    weight
 }

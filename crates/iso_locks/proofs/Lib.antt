@@ -1,4 +1,3 @@
 pub mod LockSteps
-pub mod Heaviest
 pub mod ClaimSteps
 pub mod FreeSteps

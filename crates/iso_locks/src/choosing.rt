@@ -8,27 +8,19 @@ ghost use Rattle.iso_queue.specs.Locks.{held};
 ghost use Rattle.iso_types.specs.declared.value.Name.TheVariants as names;
 ghost use Rattle.iso_state.specs.Stands.{StandsFor, world_of};
 
+use iso_escalate::choose;
 use iso_modes::{Mode, escalated};
 use iso_state::{Parts, hold};
 use iso_types::{Conn, Name, TableId};
 
 /// The table on which the connection has the most locks on rows and keys, but Brief ones: at least one, of several tables
-/// the first. Its cost is that of the weights of all tables of the head.
+/// the first.
 fn prey(parts: &Parts, conn: Conn) -> Option<TableId>
     requires stands { StandsFor parts.now }
+    requires conn { conn.0 < length parts.now.head.conns }
     ensures { result ≡ limits.prey parts.now.head (world_of parts.now).holds conn }
 {
-    let mut heaviest = None;
-    let mut most = 0;
-    for at in 0..parts.head.tables.len() {
-        let table = TableId(at as u8);
-        let weight = parts.locks.weight(conn, table);
-        if most < weight {
-            heaviest = Some(table);
-            most = weight;
-        }
-    }
-    heaviest
+    choose(&parts.locks, &parts.head, conn)
 }
 
 /// The mode of an escalation on the table.
@@ -42,9 +34,10 @@ fn escalation_mode(parts: &Parts, conn: Conn, table: TableId) -> Mode
     }
 }
 
-/// The table whose lock a connection at a limit asks for, with the mode of its request.
+/// The table whose lock a connection at a limit asks for, with the mode of its request. Its cost is that of the choice.
 pub fn escalation(parts: &Parts, conn: Conn) -> Option<(TableId, Mode)>
     requires stands { StandsFor parts.now }
+    requires conn { conn.0 < length parts.now.head.conns }
     ensures { result ≡ requests.escalation parts.now.head (world_of parts.now) conn }
 {
     let table = prey(parts, conn)?;

@@ -34,7 +34,7 @@ use Rattle.iso_history.specs.Reserves.{HasRoom}
 use Rattle.iso_history.specs.declared.entry.Entry.{Entry}
 use Rattle.iso_locklist.specs.Places.{Ledger}
 use Rattle.iso_locklist.specs.declared.places.Place.{Place}
-use Rattle.iso_state.specs.Firsts.{first_content, first_desk, first_locks}
+use Rattle.iso_state.specs.Firsts.{calm, first_content, first_desk, first_locks}
 use Rattle.iso_state.specs.Stands.{AreOf, HasPlace, HeadFits, Stands, no_desk}
 
 -- the table with this number
@@ -83,6 +83,7 @@ first-parts head = record {
   locks = record { holds = λ n. refl; waits = λ n. refl };
   desks = λ c lt. let r = first-desk head.conns c.0 in
       record { phase = r.phase; line = tt; isolation = r.level; may_wait = r.may_wait; doom = r.doom; start = r.start; claimed = r.claimed };
+  pace = refl;
   reserved = sym (reserves-start head);
 }
 
@@ -119,8 +120,17 @@ pub first-is : (head copy : Head) (tables : List (Filled Slot)) (log : Journal) 
     → log.records ≡ [] → log.window ≡ head.config.window → log.logmax ≡ head.config.logmax
     → units.begun ≡ 0 → units.works ≡ replicate (length head.conns) None → indexes ≡ [] → head.indexes ≡ []
     → locks ≡ first_locks head → desks ≡ map first_desk head.conns → past ≡ [] → reserved ≡ length head.conns * 2 + 2
-    → record { head = copy; chain = chained tables log units; bounds = record { window = log.window; logmax = log.logmax };
-      entries = map entries indexes; locks = locks; desks = desks; history = past; reserved = reserved } ≡ first_content head
+    → record {
+      head = copy;
+      chain = chained tables log units;
+      bounds = record { window = log.window; logmax = log.logmax };
+      entries = map entries indexes;
+      locks = locks;
+      desks = desks;
+      pace = calm;
+      history = past;
+      reserved = reserved;
+    } ≡ first_content head
 first-is head copy tables log units indexes locks desks past reserved same slots none window logmax begun works bare_of plain free idle empty sum =
     go copy (bare tables) log.records log.window log.logmax units.begun units.works indexes locks desks past reserved
     same slots none window logmax begun works bare_of free idle empty sum
@@ -130,8 +140,17 @@ first-is head copy tables log units indexes locks desks past reserved same slots
         → copy ≡ head → tables ≡ map (λ t. map new_slot (rows_of head t)) (tables_of head) → records ≡ [] → window ≡ head.config.window
         → logmax ≡ head.config.logmax → begun ≡ 0 → works ≡ replicate (length head.conns) None → indexes ≡ [] → locks ≡ first_locks head
         → desks ≡ map first_desk head.conns → past ≡ [] → reserved ≡ length head.conns * 2 + 2
-        → record { head = copy; chain = record { tables = tables; log = records; book = record { begun = begun; works = works } };
-          bounds = record { window = window; logmax = logmax }; entries = map entries indexes; locks = locks; desks = desks; history = past; reserved = reserved }
+        → record {
+          head = copy;
+          chain = record { tables = tables; log = records; book = record { begun = begun; works = works } };
+          bounds = record { window = window; logmax = logmax };
+          entries = map entries indexes;
+          locks = locks;
+          desks = desks;
+          pace = calm;
+          history = past;
+          reserved = reserved;
+        }
         ≡ first_content head
     go copy tables records window logmax begun works indexes locks desks past reserved a b c d e f g h i j k l =
         rw (a, b, c, d, e, f, g, h, i, j, k, l) (ap (λ (es : List (List (Value × Rid))). record (first_content head) { entries = es }) (no-entries head plain))

@@ -25,4 +25,3 @@ shut-at w c running =
     ap (λ (b : Bool). phase_of (w.ended c) (w.closing c) (is_some (w.doom c)) b (is_none (at_conn w.line c None c))) (gone-own c w.waits)
     ∙ ap (λ (o : Option ℕ). phase_of (w.ended c) (w.closing c) (is_some (w.doom c)) false (is_none o)) (at_conn-same w.line c None)
     ∙ rests-by (w.ended c) (w.closing c) (is_some (w.doom c)) (is_waiting w.waits c) (is_none (w.line c)) running
-

@@ -1,10 +1,9 @@
-use Rattle.std.proofs.Common.{◌≡◌, ◌≤◌, ◌+◌, ◌-◌, ◌∙◌, ℕ, List, arith, length, ap, sym, subst, refl, false}
+use Rattle.std.proofs.Common.{◌≡◌, ◌+◌, ◌-◌, ◌∙◌, ℕ, arith, ap, sym, subst, false}
 use Rattle.iso_chain.specs.Writes.{committed}
 use Rattle.iso_history.specs.Makers.{by_agent}
-use Rattle.iso_history.specs.Records.{left, left_of}
+use Rattle.iso_history.specs.Records.{left}
 use Rattle.iso_history.specs.Units.{unit_of}
 use Rattle.iso_history.specs.declared.entry.Act.TheVariants.{Commit}
-use Rattle.iso_queue.specs.Locks.{dropped}
 use Rattle.iso_locklist.specs.Places.{IsSameLimits, Ledger}
 use Rattle.iso_types.specs.declared.desk.Desk.{Desk}
 use Rattle.iso_types.specs.declared.desk.Phase.TheVariants.{Idle}
@@ -14,6 +13,7 @@ use Rattle.iso_locklist.specs.Holding.{LocksAre}
 use Rattle.iso_state.specs.Stands.{Content, content_of, desk_at, world_of}
 use Rattle.iso_state.proofs.ByKind.{spends-after}
 use Rattle.iso_state.proofs.FactsAlong.{reserved-small}
+use Rattle.iso_queue.specs.Locks.{dropped}
 use Rattle.iso_state.proofs.Steps.{limits-after}
 use Rattle.iso_ends.proofs.ending.commit.Goals as goal
 

@@ -1,0 +1,162 @@
+-- The parts after a change.
+use Rattle.std.proofs.Common.{◌≡◌, ◌≤◌, ◌<◌, ◌+◌, ◌∷◌, ◌++◌, [], ℕ, Bool, true, false, not, List, length, refl, ap, sym, ◌∙◌, arith, subst, Some, None, Option}
+use Rattle.std.specs.Prelude.{Err, nat_lt}
+use Rattle.iso_chain.specs.Stands.{AreChained, Chained}
+use Rattle.iso_history.proofs.limits.Limit.{needs-le}
+use Rattle.iso_history.proofs.limits.Pushed.{debt-pushed, needs-pushed}
+use Rattle.iso_history.proofs.limits.Room.{room-small}
+use Rattle.iso_history.specs.After.{after, world}
+use Rattle.iso_history.specs.Lasts.{last_of}
+use Rattle.iso_history.specs.Legal.{Allowed, ByAgent}
+use Rattle.iso_history.specs.Makers.{by_agent}
+use Rattle.iso_history.specs.Records.{debt}
+use Rattle.iso_history.specs.Reserves.{HasRoom, debt_less, debt_more, reserves_less, reserves_more, room_of}
+use Rattle.iso_history.specs.Stops.{is_full, is_never_refused, needs, reserves}
+use Rattle.iso_history.specs.World.{World}
+use Rattle.iso_history.specs.declared.entry.Act.{Act}
+use Rattle.iso_history.specs.declared.entry.Act.TheVariants.{Delete, Insert, Update}
+use Rattle.iso_history.specs.declared.entry.Who.TheVariants.{Agent}
+use Rattle.iso_locklist.specs.Holding.{LocksAre}
+use Rattle.iso_locklist.specs.Places.{IsSameLimits, Ledger}
+use Rattle.iso_types.specs.declared.desk.Desk.{Desk}
+use Rattle.iso_types.specs.declared.head.Head.{Head}
+use Rattle.iso_types.specs.declared.value.Conn.{Conn}
+use Rattle.iso_uow.specs.Book.{debt_of}
+use Rattle.iso_state.proofs.ByKind.{full-is, ready-allowed}
+use Rattle.iso_state.proofs.Desks.{IsSameSeat, claims-own, seat-kept}
+use Rattle.iso_state.proofs.FactsAlong.{apart-of, debt-of, within-of}
+use Rattle.iso_state.proofs.Steps.{IsOwn, conn-is, is-open, own-desk, own-step, step-stands}
+use Rattle.iso_state.specs.Changes.{entered, stepped, unclaimed}
+use Rattle.iso_state.specs.Stands.{Content, HasPlace, IsDeskOf, Stands, StandsFor, content_of, desk_at, is_claimed, world_of}
+use Rattle.iso_state.specs.Steps.{IsReady, is_past}
+use Rattle.iso_state.specs.declared.parts.Parts.{Parts}
+use Rattle.iso_writes.specs.Changing.{is_change}
+
+-- a change leaves its maker's desk but for the claim, and the waits; it owes one more
+pub record IsChange (head : Head) (w : World) (c : Conn) (a : Act) : Type 0 where
+  pub seat : IsSameSeat w (after head w (by_agent c a)) c
+  pub waits : (after head w (by_agent c a)).waits ≡ w.waits
+  pub unclaimed_is : is_claimed (last_of a) ≡ false
+  pub more : reserves_more w (Agent c) a ≡ 1
+  pub less : reserves_less w (Agent c) a ≡ 0
+  pub refused : is_never_refused a ≡ false
+  pub owes : debt_more a ≡ 1
+  pub keeps : debt_less w (Agent c) a ≡ 0
+
+same-seat : (w v : World) (c : Conn) → v.ended ≡ w.ended → v.closing ≡ w.closing → v.doom ≡ w.doom → v.waits ≡ w.waits → v.line ≡ w.line
+    → v.setting ≡ w.setting → v.floor ≡ w.floor → IsSameSeat w v c
+same-seat w v c e f g h i j k =
+    record { phase_same = rw (e, f, g, h, i) refl; line_same = rw i refl; setting_same = rw j refl; doom_same = rw g refl; floor_same = rw k refl }
+
+pub change-is : (head : Head) (w : World) (c : Conn) (a : Act) → is_change a ≡ true → IsChange head w c a
+change-is head w c (Insert t r row) e = record {
+  seat = same-seat w (after head w (by_agent c (Insert t r row))) c refl refl refl refl refl refl refl;
+  waits = refl;
+  unclaimed_is = refl;
+  more = refl;
+  less = refl;
+  refused = refl;
+  owes = refl;
+  keeps = refl;
+}
+change-is head w c (Update t r row) e = record {
+  seat = same-seat w (after head w (by_agent c (Update t r row))) c refl refl refl refl refl refl refl;
+  waits = refl;
+  unclaimed_is = refl;
+  more = refl;
+  less = refl;
+  refused = refl;
+  owes = refl;
+  keeps = refl;
+}
+change-is head w c (Delete t r) e = record {
+  seat = same-seat w (after head w (by_agent c (Delete t r))) c refl refl refl refl refl refl refl;
+  waits = refl;
+  unclaimed_is = refl;
+  more = refl;
+  less = refl;
+  refused = refl;
+  owes = refl;
+  keeps = refl;
+}
+change-is head w c _ e = absurd (cc)
+
+-- there is room for all that is owed after it
+change-room : (p : Content) (c : Conn) (a : Act) (old new log_new : ℕ) → Stands p → is_change a ≡ true
+    → Allowed p.head (world p.head p.history) (by_agent c a) → p.reserved + 3 ≤ old → old ≤ new + 1
+    → debt_of p.chain.book.works + 1 ≤ log_new → HasRoom p.head (world p.head (p.history ++ by_agent c a ∷ [])) new log_new
+change-room p c a old new log_new s kind al room push log =
+    let w = world p.head p.history in
+    let b = change-is p.head w c a kind in
+    let few = room-small a in
+    let under = needs-le p.head w in
+    let sum = s.parts.reserved in
+    let owed = debt-pushed p.head p.history (p.history ++ by_agent c a ∷ []) (by_agent c a) refl al (apart-of s) (within-of s) in
+    let one = b.owes in
+    let none = b.keeps in
+    let is = debt-of s in
+    record {
+      for_needs = needs-pushed p.head p.history (p.history ++ by_agent c a ∷ []) (by_agent c a) refl al (apart-of s) (within-of s) old new
+          (enough _ _ _ _ _ few under sum room) push;
+      for_debt = owes _ _ _ _ _ log_new owed one none is log;
+    }
+  where
+    enough : (n x r q old : ℕ) → x ≤ 3 → n ≤ r → q ≡ r → q + 3 ≤ old → n + x ≤ old
+    enough n x r q old few under sum room = omega (arith, few, under, sum, room)
+
+    owes : (b d x y k new : ℕ) → b + y ≡ d + x → x ≡ 1 → y ≡ 0 → k ≡ d → k + 1 ≤ new → b ≤ new
+    owes b d x y k new e f g h le = omega (arith, e, f, g, h, le)
+
+-- As a step meets it: `o` are the parts as it finds them, `p` those with room for the entry, `q` those that it leaves.
+module _ (o p q : Parts) (k : Chained) (l : Ledger) (c : Conn) (a : Act) (s : StandsFor p) (same : content_of p ≡ content_of o)
+    (free : (world_of o).pace.finished ≡ false) (lt : c.0 < length o.head.conns) (ready : IsReady p 2)
+    (by : ByAgent o.head (world_of o) c a) (kind : is_change a ≡ true) where
+  free-now : (world_of p).pace.finished ≡ false
+  free-now = subst (λ (x : Content). (world x.head x.history).pace.finished ≡ false) (sym same) free
+
+  pub lt-now : c.0 < length p.head.conns
+  lt-now = subst (λ (x : Content). c.0 < length x.head.conns) (sym same) lt
+
+  by-now : ByAgent p.head (world_of p) c a
+  by-now = subst (λ (x : Content). ByAgent x.head (world x.head x.history) c a) (sym same) by
+
+  pub change-allowed : Allowed p.head (world_of p) (by_agent c a)
+  change-allowed =
+      let b = change-is p.head (world_of p) c a kind in
+      let one = b.more in
+      let none = b.less in
+      ready-allowed (content_of p) (Agent c) a 2 s.stands free-now (conn-is p.head c lt-now, by-now) b.refused (omega (arith, one, none)) ready.fits
+
+  pub change-place : p.history.spare ≤ q.history.spare + 1 → debt_of p.units.works + 1 ≤ q.log.spare
+      → AreChained (after p.head (world_of p) (by_agent c a)) k → length k.book.works ≡ length p.units.works
+      → (after p.head (world_of p) (by_agent c a)).entries ≡ (world_of p).entries
+      → LocksAre (after p.head (world_of p) (by_agent c a)).holds (world_of p).waits l → IsSameLimits l p.locks
+      → content_of q ≡ entered (record (content_of p) { chain = k; locks = l; reserved = p.reserved + 1 }) c (by_agent c a)
+      → StandsFor q
+  change-place push log chain works entries are limits wrote =
+      let b = change-is p.head (world_of p) c a kind in
+      let one = b.more in
+      let none = b.less in
+      rw wrote (record {
+        stands = step-stands (content_of p) (by_agent c a) k l _ (p.reserved + 1) s.stands change-allowed
+            (own-step (content_of p) c a k l (unclaimed (desk_at p.desks c)) (p.reserved + 1) s.stands (record {
+              chain = chain;
+              works = works;
+              entries = entries;
+              locks = rw b.waits are;
+              limits = limits;
+              desk = seat-kept (world_of p) (after p.head (world_of p) (by_agent c a)) c (desk_at p.desks c) false b.seat
+                  (sym b.unclaimed_is ∙ claims-own (world_of p) c a) (own-desk (content_of p) c (desk_at p.desks c) s.stands lt-now refl);
+              reserved = omega (arith, one, none);
+            }));
+        room = change-room (content_of p) c a p.history.spare q.history.spare q.log.spare s.stands kind change-allowed ready.spare push log;
+      })
+
+-- Where `make_room` says that a change is past the limit, its entry is full.
+pub change-full : (p : Parts) (c : Conn) (a : Act) → StandsFor p → (world_of p).pace.finished ≡ false → c.0 < length p.head.conns
+    → ByAgent p.head (world_of p) c a → is_change a ≡ true → is_past (content_of p) 2 ≡ true → is_full p.head (world_of p) (by_agent c a) ≡ true
+change-full p c a s free lt by kind past =
+    let b = change-is p.head (world_of p) c a kind in
+    let one = b.more in
+    let none = b.less in
+    full-is (content_of p) (Agent c) a 2 s.stands free (conn-is p.head c lt, by) b.refused (omega (arith, one, none)) ∙ past
