@@ -1,4 +1,3 @@
-//! Which table an escalation locks, and in which mode.
 ghost use Rattle.std.specs.Option.{option_map_or};
 ghost use Rattle.std.specs.Prelude.{◌≡◌, ◌<◌, length};
 ghost use Rattle.iso_history.specs.Requests as requests;
@@ -14,7 +13,8 @@ use iso_modes::{Mode, escalated};
 use iso_state::{Parts, hold};
 use iso_types::{Conn, Name, TableId};
 
-/// The table on which the connection has the most locks on rows and keys, but Brief ones.
+/// The table on which the connection has the most locks on rows and keys, but Brief ones: at least one, of several tables
+/// the first.
 fn prey(parts: &Parts, conn: Conn) -> Option<TableId>
     requires stands { StandsFor parts.now }
     requires conn { conn.0 < length parts.now.head.conns }
