@@ -1,1 +1,3 @@
 pub mod ChangeSteps
+pub mod Rows
+pub mod Plain
