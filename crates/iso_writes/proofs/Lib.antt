@@ -1,3 +1,4 @@
 pub mod ChangeSteps
 pub mod Rows
 pub mod Plain
+pub mod Insertions

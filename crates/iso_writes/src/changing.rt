@@ -1,7 +1,7 @@
-ghost use Rattle.std.specs.Prelude.{◌≡◌, ◌≢◌, ◌<◌, length, true, false, None, Some, Err, OnOk, OnErr, IfOk, unwrap_or};
-ghost use Rattle.iso_chain.specs.Slots.{slot_in};
+ghost use Rattle.std.specs.Prelude.{◌≡◌, ◌≢◌, ◌<◌, length, true, false, None, Some, Err, OnOk, OnErr, IfOk, IsSome, unwrap_or};
+ghost use Rattle.iso_chain.specs.Slots.{slot_in, slots_of};
 ghost use Rattle.iso_chain.specs.Views.{bare};
-ghost use Rattle.iso_chain.specs.Writes.{written};
+ghost use Rattle.iso_chain.specs.Writes.{inserted, written};
 ghost use Rattle.iso_history.specs.Legal.{Runs};
 ghost use Rattle.iso_history.specs.Records.{is_past_log};
 ghost use Rattle.iso_history.specs.Writes.{may_change};
@@ -9,10 +9,12 @@ ghost use Rattle.iso_record.specs.Olds.{olds};
 ghost use Rattle.iso_state.specs.Changes.{rechained};
 ghost use Rattle.iso_state.specs.Stands.{StandsFor, content_of, world_of};
 ghost use Rattle.iso_types.specs.Head.{row_fits};
-ghost use Rattle.iso_uow.specs.Book.{oldest_of};
+ghost use Rattle.iso_history.specs.Versions.{next_rid};
+ghost use Rattle.iso_state.specs.Steps.{KeepsRoom};
+ghost use Rattle.iso_uow.specs.Book.{debt_of, oldest_of, work_at};
 ghost use Rattle.iso_writes.specs.Changing.{LeavesRoom};
 
-use iso_chain::{delete as write_dead, slot_of, update as write_row};
+use iso_chain::{delete as write_dead, insert as write_new, slot_of, update as write_row};
 use iso_record::olds_of;
 use iso_state::Parts;
 use iso_types::{Conn, Items, Rid, Row, StepFault, TableId, Value};
@@ -141,6 +143,55 @@ pub fn write_updated(
         rid,
         new,
         list,
+        oldest,
+        debt,
+    );
+    match done {
+        Ok(()) => Ok(()),
+        Err(_) => Err(StepFault::Memory),
+    }
+}
+
+/// The rid of the table's next slot.
+pub fn next_slot(parts: &Parts, table: TableId) -> Rid
+    requires stands { StandsFor parts.now }
+    requires table { table.0 < length parts.now.tables }
+    ensures { result ≡ next_rid (world_of parts.now) table }
+{
+    Rid(parts.tables.as_slice()[table.0 as usize].slots())
+}
+
+/// Writes an insertion that is not past the log into slots, log and units, whatever the locks are. After `Memory` all is as
+/// before.
+pub fn write_inserted(
+    alloc: Global,
+    parts: &mut Parts,
+    conn: Conn,
+    table: TableId,
+    row: &Row,
+) -> Result<(), StepFault>
+    requires conn { conn.0 < length parts.old.units.works }
+    requires has_unit { IsSome (work_at parts.old.units.works conn) }
+    requires few { debt_of parts.old.units.works < 4294967295 }
+    requires table { table.0 < length parts.old.tables }
+    requires slots { length (slots_of (bare parts.old.tables) table) < 65536 }
+    ensures wrote { OnOk result (content_of parts.new ≡ rechained (content_of parts.old) (inserted (content_of parts.old).chain conn table row.now)) }
+    ensures room { OnOk result (LeavesRoom parts.old parts.new) }
+    ensures err { OnErr result (content_of parts.new ≡ content_of parts.old) }
+    ensures kept { OnErr result (KeepsRoom parts.old parts.new) }
+    ensures fault { result ≢ Err StepFault.HistoryFull }
+{
+    let oldest = oldest_record(parts);
+    let debt = parts.units.debt();
+    let new = copy_of(alloc, row)?;
+    let done = write_new(
+        alloc,
+        &mut parts.tables,
+        &mut parts.log,
+        &mut parts.units,
+        conn,
+        table,
+        new,
         oldest,
         debt,
     );

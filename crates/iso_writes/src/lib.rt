@@ -4,4 +4,4 @@
 mod changing;
 mod writing;
 
-pub use writing::{Written, delete, update};
+pub use writing::{Written, delete, insert, refuse, update};
