@@ -19,7 +19,9 @@ use Rattle.iso_history.specs.declared.entry.Got.{Got}
 use Rattle.iso_locklist.specs.Holding.{IsNew, LocksAre}
 use Rattle.iso_locklist.specs.Lists.{asked_for}
 use Rattle.iso_locklist.specs.Places.{Ledger, line_at}
+use Rattle.iso_locklist.proofs.Lists.{is_hold}
 use Rattle.iso_locklist.proofs.NewNames.{back}
+use Rattle.iso_locklist.proofs.Settles.{gone, kept}
 use Rattle.iso_modes.specs.Terms.{is_fresh}
 use Rattle.iso_modes.specs.declared.Mode.TheVariants.{X}
 use Rattle.iso_modes.specs.declared.Term.TheVariants.{Kept}
@@ -31,6 +33,8 @@ use Rattle.iso_types.specs.declared.head.Head.{Head}
 use Rattle.iso_types.specs.declared.value.Conn.{Conn}
 use Rattle.iso_types.specs.declared.value.Name.{Name}
 use Rattle.iso_types.specs.declared.value.Name.TheVariants.{Row}
+use Rattle.iso_types.specs.Ids.{conn_eq, name_eq}
+use Rattle.iso_types.specs.declared.value.Rid.{Rid}
 use Rattle.iso_types.specs.declared.value.TableId.{TableId}
 use Rattle.iso_types.specs.declared.value.Value.{Value}
 use Rattle.iso_writes.proofs.Plain.{none-inherited, none-of}
@@ -77,14 +81,26 @@ module _ (head : Head) (w : World) (c : Conn) (t : TableId) (row : List Value) (
       ∙ not-limited (is_limited head w c (row_need head w c t (next_rid w t) + key_need head w c t row))
       (first-done (judged_need head w c (row_need head w c t (next_rid w t) + key_need head w c t row)) (judged_log head w) rest)
 
+-- nothing is released of a name that nobody holds
+none-freed : (c : Conn) (n : Name) (hs : List Hold) → filter (λ h. name_eq h.name n) hs ≡ [] → freed c n hs ≡ hs
+none-freed c n [] none = refl
+none-freed c n (h ∷ hs) none = go (name_eq h.name n) refl (none-freed c n hs)
+  where
+    and_false : (a b : Bool) → b ≡ false → not (a && b) ≡ true
+    and_false true b e = ap not e
+    and_false false b e = refl
+
+    go : (b : Bool) → name_eq h.name n ≡ b → (filter (λ g. name_eq g.name n) hs ≡ [] → freed c n hs ≡ hs) → freed c n (h ∷ hs) ≡ h ∷ hs
+    go true e ih = cc (sym (kept (λ g. name_eq g.name n) h hs e) ∙ none)
+    go false e ih =
+        kept (λ g. not (is_hold_of c n g)) h hs (ap not (is_hold c n h) ∙ and_false (conn_eq h.conn c) (name_eq h.name n) e)
+        ∙ ap (λ (l : List Hold). h ∷ l) (ih (sym (gone (λ g. name_eq g.name n) h hs e) ∙ none))
+
 -- the new row is not there yet
 pub not-there : (head : Head) (w : World) (t : TableId) → is_there head w (Row t (next_rid w t)) ≡ false
 not-there head w t = grind (arith, nat_tests)
 
 module _ (head : Head) (w : World) (c : Conn) (t : TableId) (sound : LocksSound head w) where
-  row-name : Name
-  row-name = Row t (next_rid w t)
-
   pub granted-new : is_waiting w.waits c ≡ false → (is_covered head w.holds c (Row t (next_rid w t)) X ≡ false → is_limited head w c 1 ≡ false)
       → request head w c (Row t (next_rid w t)) X ≡ Gives Got.Granted
   granted-new idle left = new-granted head w (Row t (next_rid w t)) sound.there sound.awaited_there sound.alone (not-there head w t) c X idle left
@@ -104,13 +120,29 @@ module _ (head : Head) (w : World) (c : Conn) (t : TableId) (sound : LocksSound 
       go (Some h) e = cc (sym (sound.there c (Row t (next_rid w t)) h e) ∙ not-there head w t)
 
   -- what is placed on it, and settled then, is as the entry has it
-  pub insert-holds : (r : List Value) (l : Ledger) → length head.indexes ≡ 0 → count_by (is_hold_of c (Row t (next_rid w t))) w.holds ≤ 1
-      → LocksAre (without_briefs (placed head w.holds c (asked_for (Row t (next_rid w t)) X Kept)) c
-      (settled c (Some (Row t (next_rid w t))) (placed head w.holds c (asked_for (Row t (next_rid w t)) X Kept)))) w.waits l
-      → LocksAre (after head w (by_agent c (Insert t (next_rid w t) r))).holds w.waits l
-  insert-holds r l plain single are =
+  pub insert-holds : (row : List Value) (r : Rid) (l : Ledger) → length head.indexes ≡ 0 → r ≡ next_rid w t → count_by (is_hold_of c (Row t r)) w.holds ≤ 1
+      → LocksAre (without_briefs (placed head w.holds c (asked_for (Row t r) X Kept)) c
+      (settled c (Some (Row t r)) (placed head w.holds c (asked_for (Row t r) X Kept)))) w.waits l
+      → LocksAre (after head w (by_agent c (Insert t r row))).holds w.waits l
+  insert-holds row r l plain is single are =
       subst (λ (rs : List Request). LocksAre (without_briefs w.holds c (all_placed head (placed head (settled c None w.holds) c
-      (asked_for (Row t (next_rid w t)) X Kept)) c rs)) w.waits l) (sym (none-inherited head w c t r plain))
+      (asked_for (Row t r) X Kept)) c rs)) w.waits l) (sym (none-inherited head w c t row plain))
       (subst (λ (hs : List Hold). LocksAre hs w.waits l)
-      (taken-spared head w.holds c (Row t (next_rid w t)) X Kept false false
-      (ap (λ (o : Option Hold). option_map_or (λ h. is_fresh h.term) o false) none-own) refl refl single) are)
+      (taken-spared head w.holds c (Row t r) X Kept false false
+      (ap (λ (o : Option Hold). option_map_or (λ h. is_fresh h.term) o false) (subst (λ (q : Rid). hold_on w.holds c (Row t q) ≡ None) (sym is) none-own))
+      refl refl single) are)
+
+  -- what is placed on it and released again is as before
+  pub released-new : (l : Ledger) → LocksAre (freed c (Row t (next_rid w t)) (placed head w.holds c (asked_for (Row t (next_rid w t)) X Kept))) w.waits l
+      → LocksAre w.holds w.waits l
+  released-new l are = go (is_covered head w.holds c (Row t (next_rid w t)) X) refl
+    where
+      go : (b : Bool) → is_covered head w.holds c (Row t (next_rid w t)) X ≡ b → LocksAre w.holds w.waits l
+      go true e =
+          let same : placed head w.holds c (asked_for (Row t (next_rid w t)) X Kept) ≡ w.holds = rw e refl in
+          subst (λ (hs : List Hold). LocksAre hs w.waits l) (none-freed c (Row t (next_rid w t)) w.holds new-name.held)
+          (subst (λ (hs : List Hold). LocksAre (freed c (Row t (next_rid w t)) hs) w.waits l) same are)
+      go false e =
+          let same : placed head w.holds c (asked_for (Row t (next_rid w t)) X Kept) ≡ added w.holds c (asked_for (Row t (next_rid w t)) X Kept) = rw e refl in
+          back w.holds w.waits (Row t (next_rid w t)) new-name c X (λ (n : Name). line_at l.places n)
+          (subst (λ (hs : List Hold). LocksAre (freed c (Row t (next_rid w t)) hs) w.waits l) same are)

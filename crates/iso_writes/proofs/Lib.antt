@@ -2,3 +2,4 @@ pub mod ChangeSteps
 pub mod Rows
 pub mod Plain
 pub mod Insertions
+pub mod InsertSteps
