@@ -152,6 +152,10 @@ module _ (o p q : Parts) (k : Chained) (l : Ledger) (c : Conn) (a : Act) (s : St
         room = change-room (content_of p) c a p.history.spare q.history.spare q.log.spare s.stands kind change-allowed ready.spare push log;
       })
 
+-- the head is the same
+pub plain-now : (o p : Parts) → content_of p ≡ content_of o → length o.head.indexes ≡ 0 → length p.head.indexes ≡ 0
+plain-now o p same e = subst (λ (x : Content). length x.head.indexes ≡ 0) (sym same) e
+
 -- Where `make_room` says that a change is past the limit, its entry is full.
 pub change-full : (p : Parts) (c : Conn) (a : Act) → StandsFor p → (world_of p).pace.finished ≡ false → c.0 < length p.head.conns
     → ByAgent p.head (world_of p) c a → is_change a ≡ true → is_past (content_of p) 2 ≡ true → is_full p.head (world_of p) (by_agent c a) ≡ true

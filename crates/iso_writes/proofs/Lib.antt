@@ -1,1 +1,5 @@
 pub mod ChangeSteps
+pub mod Rows
+pub mod Plain
+pub mod Insertions
+pub mod InsertSteps

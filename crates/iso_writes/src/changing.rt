@@ -1,16 +1,24 @@
-ghost use Rattle.std.specs.Prelude.{◌≡◌, ◌≢◌, ◌<◌, length, true, false, None, Err, OnOk, OnErr, unwrap_or};
-ghost use Rattle.iso_chain.specs.Writes.{written};
+ghost use Rattle.std.specs.Prelude.{◌≡◌, ◌≢◌, ◌<◌, length, true, false, None, Some, Err, OnOk, OnErr, IfOk, IsSome, unwrap_or};
+ghost use Rattle.iso_chain.specs.Slots.{slot_in, slots_of};
+ghost use Rattle.iso_chain.specs.Views.{bare};
+ghost use Rattle.iso_chain.specs.Writes.{inserted, written};
 ghost use Rattle.iso_history.specs.Legal.{Runs};
 ghost use Rattle.iso_history.specs.Records.{is_past_log};
 ghost use Rattle.iso_history.specs.Writes.{may_change};
+ghost use Rattle.iso_record.specs.Olds.{olds};
 ghost use Rattle.iso_state.specs.Changes.{rechained};
 ghost use Rattle.iso_state.specs.Stands.{StandsFor, content_of, world_of};
-ghost use Rattle.iso_uow.specs.Book.{oldest_of};
+ghost use Rattle.iso_types.specs.Head.{row_fits};
+ghost use Rattle.iso_history.specs.Versions.{next_rid};
+ghost use Rattle.iso_state.specs.Steps.{KeepsRoom};
+ghost use Rattle.iso_uow.specs.Book.{debt_of, oldest_of, work_at};
 ghost use Rattle.iso_writes.specs.Changing.{LeavesRoom};
 
-use iso_chain::delete as write_dead;
+use iso_chain::{delete as write_dead, insert as write_new, slot_of, update as write_row};
+use iso_record::olds_of;
 use iso_state::Parts;
-use iso_types::{Conn, Rid, StepFault, TableId};
+use iso_types::{Conn, Items, Rid, Row, StepFault, TableId, Value};
+use std::alloc::Global;
 
 /// The oldest record of an open unit, and the number of records where there is none.
 fn oldest_record(parts: &Parts) -> u32
@@ -57,6 +65,133 @@ pub fn write_deleted(
         conn,
         table,
         rid,
+        oldest,
+        debt,
+    );
+    match done {
+        Ok(()) => Ok(()),
+        Err(_) => Err(StepFault::Memory),
+    }
+}
+
+/// A copy of the row; `Memory` where there is none.
+pub fn copy_of(alloc: Global, row: &Row) -> Result<Row, StepFault>
+    ensures copy { IfOk result (λ r. r ≡ row.now) }
+    ensures fault { result ≢ Err StepFault.HistoryFull }
+{
+    match row.copied(alloc) {
+        Ok(copy) => Ok(copy),
+        Err(_) => Err(StepFault::Memory),
+    }
+}
+
+/// The old values of the columns that the row changes, of a slot that the connection may change; `Memory` where there is none.
+fn olds_for(
+    alloc: Global,
+    parts: &Parts,
+    conn: Conn,
+    table: TableId,
+    rid: Rid,
+    row: &Row,
+) -> Result<Items<(u8, Value)>, StepFault>
+    requires stands { StandsFor parts.now }
+    requires may { may_change parts.now.head (world_of parts.now) conn table rid ≡ true }
+    requires row { row_fits parts.now.head table row.now ≡ true }
+    ensures olds { IfOk result (λ list. list ≡ olds (slot_in (bare parts.now.tables) table rid).row row.now) }
+    ensures fault { result ≢ Err StepFault.HistoryFull }
+{
+    let slot = slot_of(&parts.tables, table, rid);
+    match olds_of(alloc, slot.row.as_slice(), row.as_slice()) {
+        Ok(list) => Ok(list),
+        Err(_) => Err(StepFault::Memory),
+    }
+}
+
+/// Writes an update that is not past the log into slots, log and units, with the old values of the columns that it changes.
+/// After `Memory` all is as before.
+pub fn write_updated(
+    alloc: Global,
+    parts: &mut Parts,
+    conn: Conn,
+    table: TableId,
+    rid: Rid,
+    row: &Row,
+) -> Result<(), StepFault>
+    requires stands { StandsFor parts.old }
+    requires conn { conn.0 < length parts.old.head.conns }
+    requires runs { Runs (world_of parts.old) conn }
+    requires may { may_change parts.old.head (world_of parts.old) conn table rid ≡ true }
+    requires row { row_fits parts.old.head table row.now ≡ true }
+    requires fits { is_past_log parts.old.head (world_of parts.old) ≡ false }
+    ensures wrote { OnOk result (content_of parts.new ≡ rechained (content_of parts.old) (written (content_of parts.old).chain conn table rid (Some row.now))) }
+    ensures room { OnOk result (LeavesRoom parts.old parts.new) }
+    ensures err { OnErr result (content_of parts.new ≡ content_of parts.old) }
+    ensures stands { OnErr result (StandsFor parts.new) }
+    ensures fault { result ≢ Err StepFault.HistoryFull }
+{
+    let oldest = oldest_record(parts);
+    let debt = parts.units.debt();
+    let new = copy_of(alloc, row)?;
+    let list = olds_for(alloc, parts, conn, table, rid, row)?;
+    let done = write_row(
+        alloc,
+        &mut parts.tables,
+        &mut parts.log,
+        &mut parts.units,
+        conn,
+        table,
+        rid,
+        new,
+        list,
+        oldest,
+        debt,
+    );
+    match done {
+        Ok(()) => Ok(()),
+        Err(_) => Err(StepFault::Memory),
+    }
+}
+
+/// The rid of the table's next slot.
+pub fn next_slot(parts: &Parts, table: TableId) -> Rid
+    requires stands { StandsFor parts.now }
+    requires table { table.0 < length parts.now.tables }
+    ensures { result ≡ next_rid (world_of parts.now) table }
+{
+    Rid(parts.tables.as_slice()[table.0 as usize].slots())
+}
+
+/// Writes an insertion that is not past the log into slots, log and units, whatever the locks are. After `Memory` all is as
+/// before.
+pub fn write_inserted(
+    alloc: Global,
+    parts: &mut Parts,
+    conn: Conn,
+    table: TableId,
+    row: &Row,
+) -> Result<(), StepFault>
+    requires conn { conn.0 < length parts.old.units.works }
+    requires has_unit { IsSome (work_at parts.old.units.works conn) }
+    requires few { debt_of parts.old.units.works < 4294967295 }
+    requires table { table.0 < length parts.old.tables }
+    requires slots { length (slots_of (bare parts.old.tables) table) < 65536 }
+    ensures wrote { OnOk result (content_of parts.new ≡ rechained (content_of parts.old) (inserted (content_of parts.old).chain conn table row.now)) }
+    ensures room { OnOk result (LeavesRoom parts.old parts.new) }
+    ensures err { OnErr result (content_of parts.new ≡ content_of parts.old) }
+    ensures kept { OnErr result (KeepsRoom parts.old parts.new) }
+    ensures fault { result ≢ Err StepFault.HistoryFull }
+{
+    let oldest = oldest_record(parts);
+    let debt = parts.units.debt();
+    let new = copy_of(alloc, row)?;
+    let done = write_new(
+        alloc,
+        &mut parts.tables,
+        &mut parts.log,
+        &mut parts.units,
+        conn,
+        table,
+        new,
         oldest,
         debt,
     );

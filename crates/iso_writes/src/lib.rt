@@ -4,4 +4,4 @@
 mod changing;
 mod writing;
 
-pub use writing::{Written, delete};
+pub use writing::{Written, delete, insert, refuse, update};

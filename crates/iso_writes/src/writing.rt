@@ -1,15 +1,19 @@
-ghost use Rattle.std.specs.Prelude.{◌≡◌, ◌<◌, ◌++◌, [], ◌∷◌, length, false, true, Err, OnOk, OnErr};
+ghost use Rattle.std.specs.Prelude.{◌≡◌, ◌<◌, ◌++◌, [], ◌∷◌, length, false, true, Err, OnOk, OnErr, IsTrue};
 ghost use Rattle.iso_history.specs.Legal.{Runs};
 ghost use Rattle.iso_history.specs.Makers.{by_agent};
 ghost use Rattle.iso_history.specs.Stops.{is_full};
-ghost use Rattle.iso_history.specs.Writes.{deletes, may_change};
+ghost use Rattle.iso_history.specs.Writes.{deletes, inserts, is_refusal, may_change, may_write, updates};
 ghost use Rattle.iso_history.specs.Writes.Written.{Done as IsDone};
+ghost use Rattle.iso_history.specs.Versions.{next_rid};
+ghost use Rattle.iso_types.specs.Head.{row_fits};
 ghost use Rattle.iso_state.specs.Stands.{StandsFor, content_of, world_of};
 
-use crate::changing::write_deleted;
+use crate::changing::{copy_of, next_slot, write_deleted, write_inserted, write_updated};
 use iso_history::{Act, Entry, Who};
-use iso_state::{Parts, enter, make_room};
-use iso_types::{Conn, Name, Rid, StepFault, TableId};
+use iso_modes::{Mode, Term};
+use iso_state::{Parts, enter, make_room, place};
+use iso_types::{Conn, Name, Rid, Row, StepFault, TableId};
+use std::alloc::Global;
 
 /// What comes of a write. `Blocked`: another connection's lock on that name is in its way, and it waits; `Escalates`: the
 /// lock of that table was asked for instead; `Refused`: with this SQLCODE; `Full`: the table has all its slots.
@@ -49,5 +53,119 @@ pub fn delete(
     let who = Who::Agent(conn);
     let act = Act::Delete { table, rid };
     enter(parts, conn, Entry { who, act });
+    Ok(())
+}
+
+/// Makes the entry of an update that is done.
+pub fn update(
+    alloc: Global,
+    parts: &mut Parts,
+    conn: Conn,
+    table: TableId,
+    rid: Rid,
+    row: &Row,
+) -> Result<(), StepFault>
+    requires stands { StandsFor parts.old }
+    requires open { (world_of parts.old).pace.finished ≡ false }
+    requires conn { conn.0 < length parts.old.head.conns }
+    requires runs { Runs (world_of parts.old) conn }
+    requires may { may_change parts.old.head (world_of parts.old) conn table rid ≡ true }
+    requires row { row_fits parts.old.head table row.now ≡ true }
+    requires outcome { updates parts.old.head (world_of parts.old) conn table rid row.now ≡ IsDone }
+    requires plain { length parts.old.head.indexes ≡ 0 } // keys come next
+    ensures stands { StandsFor parts.new }
+    ensures head { parts.new.head ≡ parts.old.head }
+    ensures full { result ≡ Err StepFault.HistoryFull → is_full parts.old.head (world_of parts.old) (by_agent conn (Act.Update table rid row.now)) ≡ true }
+    ensures ok { OnOk result (parts.new.history.items ≡ parts.old.history.items ++ by_agent conn (Act.Update table rid row.now) ∷ []) }
+    ensures err { OnErr result (content_of parts.new ≡ content_of parts.old) }
+{
+    make_room(parts, 2)?;
+    let told = copy_of(alloc, row)?;
+    write_updated(alloc, parts, conn, table, rid, row)?;
+    parts.locks.settle(conn, None);
+    parts.reserved += 1;
+    let who = Who::Agent(conn);
+    let act = Act::Update {
+        table,
+        rid,
+        row: told,
+    };
+    enter(parts, conn, Entry { who, act });
+    Ok(())
+}
+
+/// Makes the entry of an insertion that is done: the row has the table's next slot, and the connection X on it. After a fault
+/// the state stands for the same history, and its lock list for the same holds and waits.
+pub fn insert(
+    alloc: Global,
+    parts: &mut Parts,
+    conn: Conn,
+    table: TableId,
+    row: &Row,
+) -> Result<(), StepFault>
+    requires stands { StandsFor parts.old }
+    requires open { (world_of parts.old).pace.finished ≡ false }
+    requires conn { conn.0 < length parts.old.head.conns }
+    requires runs { Runs (world_of parts.old) conn }
+    requires may { may_write (world_of parts.old) conn table ≡ true }
+    requires row { row_fits parts.old.head table row.now ≡ true }
+    requires outcome { inserts parts.old.head (world_of parts.old) conn table row.now ≡ IsDone }
+    requires plain { length parts.old.head.indexes ≡ 0 } // keys come next
+    ensures stands { StandsFor parts.new }
+    ensures head { parts.new.head ≡ parts.old.head }
+    ensures full { result ≡ Err StepFault.HistoryFull → is_full parts.old.head (world_of parts.old) (by_agent conn (Act.Insert table (next_rid (world_of parts.old) table) row.now)) ≡ true }
+    ensures ok { OnOk result (parts.new.history.items ≡ parts.old.history.items ++ by_agent conn (Act.Insert table (next_rid (world_of parts.old) table) row.now) ∷ []) }
+    ensures err { OnErr result (parts.new.history.items ≡ parts.old.history.items) }
+{
+    make_room(parts, 2)?;
+    let told = copy_of(alloc, row)?;
+    let rid = next_slot(parts, table);
+    let name = Name::Row(table, rid);
+    place(parts, conn, &name, Mode::X, Term::Kept)?;
+    match write_inserted(alloc, parts, conn, table, row) {
+        Ok(()) => {}
+        Err(fault) => {
+            parts.locks.release(conn, name);
+            return Err(fault);
+        }
+    }
+    parts.locks.settle(conn, Some(name));
+    parts.reserved += 1;
+    let who = Who::Agent(conn);
+    let act = Act::Insert {
+        table,
+        rid,
+        row: told,
+    };
+    enter(parts, conn, Entry { who, act });
+    Ok(())
+}
+
+/// The entry of a refusal with this SQLCODE.
+fn refusal(conn: Conn, code: i32) -> Entry
+    ensures { result ≡ by_agent conn (Act.Refused code) }
+{
+    Entry {
+        who: Who::Agent(conn),
+        act: Act::Refused { code },
+    }
+}
+
+/// Makes the entry of a refusal with this SQLCODE: -407, -802, -803, -880, -912 or -964.
+pub fn refuse(parts: &mut Parts, conn: Conn, code: i32) -> Result<(), StepFault>
+    requires stands { StandsFor parts.old }
+    requires open { (world_of parts.old).pace.finished ≡ false }
+    requires conn { conn.0 < length parts.old.head.conns }
+    requires runs { Runs (world_of parts.old) conn }
+    requires may { IsTrue (is_refusal parts.old.head (world_of parts.old) conn code) }
+    ensures stands { StandsFor parts.new }
+    ensures head { parts.new.head ≡ parts.old.head }
+    ensures full { result ≡ Err StepFault.HistoryFull → is_full parts.old.head (world_of parts.old) (by_agent conn (Act.Refused code)) ≡ true }
+    ensures ok { OnOk result (parts.new.history.items ≡ parts.old.history.items ++ by_agent conn (Act.Refused code) ∷ []) }
+    ensures err { OnErr result (content_of parts.new ≡ content_of parts.old) }
+{
+    make_room(parts, 1)?;
+    parts.locks.settle(conn, None);
+    enter(parts, conn, refusal(conn, code));
     Ok(())
 }
