@@ -2,5 +2,7 @@
 #![tactic(auto)]
 
 mod escalation;
+#[cfg(test)]
+mod tests;
 
 pub use escalation::{choose, collapse};
