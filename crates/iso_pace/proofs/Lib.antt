@@ -1,0 +1,3 @@
+pub mod EdgeBits
+pub mod Graphs
+pub mod Walks

@@ -1,0 +1,9 @@
+//! The steps of the dispatcher: it takes the script's lines, ends waits and deadlocks, and closes the connections. Each adds
+//! one entry to the history of the state.
+#![tactic(auto)]
+
+mod cycles;
+mod resting;
+
+pub use cycles::cyclic;
+pub use resting::{able, quiet};
