@@ -46,13 +46,7 @@ fn locked(conn: Conn, name: &Name, mode: Mode, why: Why, got: Got) -> Entry
 }
 
 /// Makes the entry of a lock that is granted.
-fn grant(
-    parts: &mut Parts,
-    conn: Conn,
-    name: &Name,
-    mode: Mode,
-    why: Why,
-) -> Result<(), StepFault>
+fn grant(parts: &mut Parts, conn: Conn, name: &Name, mode: Mode, why: Why) -> Result<(), StepFault>
     requires stands { StandsFor parts.old }
     requires open { (world_of parts.old).pace.finished ≡ false }
     requires conn { conn.0 < length parts.old.head.conns }
@@ -100,7 +94,12 @@ fn wait(
         claimed: false,
         ..desk_of(parts, conn)
     };
-    move_to(parts, conn, desk, locked(conn, name, mode, why, Got::Queued(to)));
+    move_to(
+        parts,
+        conn,
+        desk,
+        locked(conn, name, mode, why, Got::Queued(to)),
+    );
     Ok(())
 }
 
@@ -132,7 +131,12 @@ fn time_out(
         claimed: false,
         ..desk_of(parts, conn)
     };
-    move_to(parts, conn, desk, locked(conn, name, mode, why, Got::TimedOut));
+    move_to(
+        parts,
+        conn,
+        desk,
+        locked(conn, name, mode, why, Got::TimedOut),
+    );
     Ok(())
 }
 

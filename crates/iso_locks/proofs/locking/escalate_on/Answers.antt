@@ -29,4 +29,3 @@ returns-in_err-time_out-in-TimesOut-clause-full c =
     λ e. subst (λ (o : Outcome). is_full p.head (world_of p) (by_agent c.args.conn (escalated_by c.args.table c.args.mode o)) ≡ true)
     (ap (λ (j : Judged). judged_as j) (sym c.in-TimesOut.is) ∙ c.judge.ensures)
     (c.time_out.ensures.full (fault-was _ _ _ _ c.in_err-time_out-in-TimesOut.was c.from_residual-in_err-time_out-in-TimesOut.ensures.1 e))
-
