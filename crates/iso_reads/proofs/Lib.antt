@@ -1,2 +1,3 @@
 pub mod SlotReads
 pub mod LookSteps
+pub mod Beside

@@ -2,5 +2,6 @@
 #![tactic(auto)]
 
 mod asking;
+mod looking;
 mod outcomes;
 mod slots;
