@@ -12,6 +12,7 @@ use Rattle.iso_locklist.specs.declared.room.LockFault.{LockFault}
 use Rattle.iso_locklist.specs.declared.room.Room.{Room}
 use Rattle.iso_locklist.specs.declared.room.Room.TheVariants.{AtCapacity, AtShare, Free}
 use Rattle.iso_modes.specs.Modes.{covers}
+use Rattle.iso_modes.specs.Terms.{is_brief}
 use Rattle.iso_modes.specs.declared.Mode.{Mode}
 use Rattle.iso_queue.specs.Lines.{Line, edges_of, has_mode, hold_of, is_grantable, is_touched, is_waiter, settled, unheld, unqueued, waiter_of}
 use Rattle.iso_queue.specs.declared.types.Asked.{Asked}
@@ -137,6 +138,10 @@ abbrev pub is_in : List TableId → Scope → Name → Bool
 is_in index_tables Each n = true
 is_in index_tables (OnTable t) n = option_map_or (λ u. table_eq u t) (table_in index_tables n) false
 is_in index_tables (Beside m) n = not (name_eq m n)
+
+-- the name is a row's or key's of the table, and the connection holds it, not as Brief
+abbrev pub weighs : List TableId → Conn → TableId → Place → Bool
+weighs index_tables c t p = is_in index_tables (OnTable t) p.name && option_map_or (λ h. not (is_brief h.term)) (hold_of p.queue.holders c) false
 
 -- the name's line after the change, where it is one of those
 abbrev pub changed_in : List TableId → Scope → Change → Conn → Name → Line → Line

@@ -1,7 +1,7 @@
 ghost use Rattle.std.specs.Prelude.{drop, List, ◌≡◌, ◌<◌, ◌≤◌, [], IfOk, OnOk, OnErr, false, if◌then◌else◌, None, count_by, filter, length, map, slice_index_or, slice_set};
 ghost use Rattle.iso_locklist.specs.Holding.{AreAsked, AreNew, AreOfHead, IsNew, all_added, HasTables, LocksAre, WaitsOnce, room_in_lists, settled_beside};
 ghost use Rattle.iso_locklist.specs.Lists.{asked_for, IsHeads, IsHeadsIn, IsSingle, IsSingleIn, StaySingle, claimed_holds, claimed_waits, grants_in, holds_in, named_hold, named_wait, waits_in};
-ghost use Rattle.iso_locklist.specs.Places.{IsLimited, IsSameLimits, all_taken, cancelled, each_line, edges_in, is_covered, is_grantable_in, is_spared, line_at, need_of, released, room_for, room_to_ask, taken, wait_in, changed, changed_in};
+ghost use Rattle.iso_locklist.specs.Places.{IsLimited, IsSameLimits, all_taken, cancelled, each_line, edges_in, is_covered, is_grantable_in, is_spared, line_at, need_of, released, room_for, room_to_ask, taken, wait_in, weighs, changed, changed_in};
 ghost use Rattle.iso_locklist.specs.declared.places.Place.{Place as Entry};
 ghost use Rattle.iso_queue.specs.Lines.{asked, bits_of, claimed, hold_of, is_granted, is_guarded_against, is_used, settled, wait_for, would_wait};
 ghost use Rattle.iso_queue.specs.Locks.{Hold as Held, added, collapsed, dropped, freed, hold_on, others_guard, without_briefs};
@@ -28,6 +28,7 @@ use crate::places::{
 };
 use crate::room::{LockFault, Room, room_beside, room_in};
 use crate::snapshot::{in_order, list_lines};
+use crate::weights::weight_in;
 use iso_modes::{Mode, Term, covers};
 use iso_queue::{Asked, Claimed, Hold, LockLine};
 use iso_types::{Conn, Edges, Head, Items, Memory, Name, TableId};
@@ -146,6 +147,15 @@ impl LockList {
     {
         let _ = &self.places;
         self.can_claim_at(conn)
+    }
+
+    /// How many locks on rows and keys of the table the connection holds, but Brief ones. Its cost is the number of names,
+    /// and of all who hold them. Db2 LUW, 'Lock escalation'.
+    pub fn weight(&self, conn: Conn, table: TableId) -> usize
+        ensures { (head : Declared) (hs : List Held) (xs : List Awaiting) → HasTables head self.now → LocksAre hs xs self.now → IsSingleIn hs xs conn → result ≡ limits.weight head hs conn table }
+    {
+        let _ = &self.places;
+        self.weight_at(conn, table)
     }
 
     /// The connections to which the connection's wait has an edge: each other holder of the name in a mode that does not
@@ -410,6 +420,13 @@ impl LockList {
             Some(hold) => covers(hold.mode, mode),
             None => false,
         }
+    }
+
+    /// How many lines of the table's rows and keys the connection holds, but as Brief.
+    fn weight_at(&self, conn: Conn, table: TableId) -> usize
+        ensures { result ≡ length (filter (weighs self.now.index_tables conn table) self.now.places) }
+    {
+        weight_in(&self.places, self.index_tables.as_slice(), conn, table)
     }
 
     /// Whether the connection waits in a line where its wait has no edge.

@@ -1,1 +1,4 @@
 pub mod LockSteps
+pub mod Heaviest
+pub mod ClaimSteps
+pub mod FreeSteps
