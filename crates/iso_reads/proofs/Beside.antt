@@ -1,8 +1,9 @@
 -- What a look sees beside another unit's pending version.
+use Rattle.std.specs.Prelude.{None, Some, Result, Ok, Err, IfOk}
 use Rattle.std.proofs.Common.{◌≡◌, Bool, true, false, List, refl, ap, sym, subst, ◌∙◌, Option, if◌then◌else◌}
 use Rattle.iso_history.specs.After.{world}
 use Rattle.iso_history.specs.Looks.{look, shown}
-use Rattle.iso_history.specs.Requests.{Outcome}
+use Rattle.iso_history.specs.Requests.{Outcome, escalation, is_pressed, request}
 use Rattle.iso_history.specs.Requests.Outcome.{Gives, Limit}
 use Rattle.iso_history.specs.Units.{unit_of}
 use Rattle.iso_history.specs.Versions.{committed, is_changed_beside, is_pending, present, versions}
@@ -16,7 +17,15 @@ use Rattle.iso_types.specs.declared.value.TableId.{TableId}
 use Rattle.iso_types.specs.declared.value.Value.{Value}
 use Rattle.iso_state.specs.Stands.{Content, Stands}
 use Rattle.iso_reads.proofs.SlotReads.{beside-pending, pin-shows}
-use Rattle.iso_reads.specs.Answers.{Shows, is_beside, pin_of, seen}
+use Rattle.iso_reads.specs.Answers.{Shows, answer_by, asked_mode, comes_at_limit, is_beside, limited, pin_of, seen}
+use Rattle.iso_reads.proofs.LookSteps.{asks-by, outcome-is}
+use Rattle.iso_locks.proofs.LockSteps.{pressed}
+use Rattle.iso_locks.specs.Answers.{answer_of}
+use Rattle.iso_locks.specs.declared.locking.Answer.{Answer}
+use Rattle.iso_history.specs.Outcomes.{at_limit, escalated_by, limited_by}
+use Rattle.iso_modes.specs.declared.Mode.{Mode}
+use Rattle.iso_types.specs.declared.head.Head.{Head}
+use Rattle.iso_types.specs.declared.value.Name.TheVariants.{Row, Table}
 use Rattle.iso_reads.specs.declared.outcomes.Looked.{Looked}
 use Rattle.iso_reads.specs.declared.outcomes.Looked.TheVariants.{Pinned, Shown}
 
@@ -65,3 +74,46 @@ seen-shows p s c t r want = go (is_beside (world p.head p.history) c t r want) r
     go true e = subst (λ (row : Option (List Value)). Shows (Pinned (pin_of p t r)) row) (shown-by (world p.head p.history) c t r want true e)
         (pin-shows p s t r (pending-beside (world p.head p.history) c t r want e))
     go false e = refl
+
+-- at the lock limit nothing is shown
+limited-shows : (a : Answer) (row : Option (List Value)) → Shows (limited a) row
+limited-shows (Answer.Escalates t) row = tt
+limited-shows (Answer.Refused code) row = tt
+limited-shows Answer.TimedOut row = tt
+limited-shows Answer.Queued row = tt
+limited-shows Answer.Done row = tt
+
+-- the answer to a look, by its outcome
+pub by-shows : (p : Content) (s : Stands p) (c : Conn) (t : TableId) (r : Rid) (want : Want) (o : Outcome)
+    → Shows (answer_by p c t r want o) (shown (world p.head p.history) c t r want)
+by-shows p s c t r want (Gives Got.Granted) = seen-shows p s c t r want
+by-shows p s c t r want (Gives (Got.Queued m)) = tt
+by-shows p s c t r want (Gives Got.TimedOut) = tt
+by-shows p s c t r want Limit = limited-shows (answer_of (at_limit p.head (world p.head p.history) c)) (shown (world p.head p.history) c t r want)
+
+-- an answer that is this one shows what this one shows
+pub still-ok : {E : Type 0} (made : Result Looked E) (a : Looked) (row : Option (List Value)) → Shows a row → IfOk made (λ x. x ≡ a)
+    → IfOk made (λ x. Shows x row)
+still-ok (Ok x) a row shows is = subst (λ (y : Looked). Shows y row) (sym is) shows
+still-ok (Err e) a row shows is = tt
+
+-- what comes at the limit
+pub limit-comes : (head : Head) (w : World) (c : Conn) → comes_at_limit (answer_of (at_limit head w c)) ≡ true
+limit-comes head w c = go (escalation head w c)
+  where
+    by : (t : TableId) (m : Mode) (o : Outcome) → comes_at_limit (answer_of (escalated_by t m o)) ≡ true
+    by t m (Gives Got.Granted) = refl
+    by t m (Gives (Got.Queued to)) = refl
+    by t m (Gives Got.TimedOut) = refl
+    by t m Limit = refl
+
+    go : (o : Option (TableId × Mode)) → comes_at_limit (answer_of (limited_by head w c o)) ≡ true
+    go None = refl
+    go (Some p) = by p.0 p.1 (request head w c (Table p.0) p.1)
+
+-- a look at a limit is one of a connection that is pressed
+pub look-pressed : (head : Head) (w : World) (c : Conn) (t : TableId) (r : Rid) (want : Want) → look head w c t r want ≡ Limit
+    → is_pressed head w c ≡ true
+look-pressed head w c t r want outcome =
+    pressed head w c (Row t r) (asked_mode want)
+    (sym (outcome-is head w c t r want (ap (λ (o : Outcome). asks-by o) outcome)) ∙ outcome)

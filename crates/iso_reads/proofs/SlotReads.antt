@@ -21,14 +21,8 @@ use Rattle.iso_types.specs.declared.value.TableId.{TableId}
 use Rattle.iso_types.specs.declared.value.Value.{Value}
 use Rattle.iso_chain.proofs.Pinned.{pin-chain, pin-committed, pin-order}
 use Rattle.iso_chain.specs.Laws.{pinned}
-use Rattle.iso_rebuild.specs.Chains.{HasChain, IsRebuilt}
-use Rattle.iso_rebuild.specs.declared.past.Past.{Past}
-use Rattle.iso_history.specs.Looks.{shown as seen_by}
-use Rattle.iso_history.specs.declared.entry.Want.{Want}
-use Rattle.iso_history.specs.declared.entry.Want.TheVariants.{Alter, AlterKept, Current, Dirty, Repeat, Steady}
-use Rattle.iso_reads.specs.Answers.{Shows, is_beside, pin_of, seen}
-use Rattle.iso_reads.specs.declared.outcomes.Looked.{Looked}
-use Rattle.iso_reads.specs.declared.outcomes.Looked.TheVariants.{Pinned, Shown}
+use Rattle.iso_reads.specs.Answers.{Shows, pin_of}
+use Rattle.iso_reads.specs.declared.outcomes.Looked.TheVariants.{Pinned}
 use Rattle.iso_state.proofs.FactsAlong.{count-of, kept-of}
 use Rattle.iso_state.specs.Stands.{Content, Stands}
 
