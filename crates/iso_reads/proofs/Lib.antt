@@ -1,2 +1,4 @@
 pub mod SlotReads
 pub mod LookSteps
+pub mod Beside
+pub mod Current

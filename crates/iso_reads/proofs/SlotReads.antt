@@ -1,7 +1,7 @@
 -- What a slot tells of the versions that it stands for.
-use Rattle.std.proofs.Common.{◌≡◌, ◌<◌, ◌+◌, arith, ℕ, Bool, true, false, not, ◌&&◌, ◌||◌, List, [], ◌∷◌, length, refl, ap, sym, subst, ◌∙◌, if◌then◌else◌}
+use Rattle.std.proofs.Common.{◌≤◌, ◌≡◌, ◌<◌, ◌+◌, arith, ℕ, Bool, true, false, not, ◌&&◌, ◌||◌, List, [], ◌∷◌, length, refl, ap, sym, subst, ◌∙◌, if◌then◌else◌}
 use Rattle.std.specs.Option.{option_map_or}
-use Rattle.std.specs.Prelude.{None, Some, Option, is_none, is_some, ◌==◌, nat_le}
+use Rattle.std.specs.Prelude.{None, Some, Option, is_none, is_some, ◌==◌, nat_le, unwrap_or}
 use Rattle.iso_chain.proofs.Records.{AllBack, all-back}
 use Rattle.iso_chain.specs.Logs.{record_at}
 use Rattle.iso_chain.specs.Slots.{SlotStands, face, slot_in, slots_of}
@@ -10,7 +10,7 @@ use Rattle.iso_history.specs.Looks.{is_first_in_window}
 use Rattle.iso_history.specs.Piles.{AllOfUnit, AllOneUnit, AllPiled, NonePending, OneUnit, Piled}
 use Rattle.iso_history.specs.Records.{is_in_window}
 use Rattle.iso_history.specs.Units.{unit_of}
-use Rattle.iso_history.specs.Versions.{first_record, head_record, is_changed_beside, is_dead, is_pending, is_pending_beside, present, slots, versions}
+use Rattle.iso_history.specs.Versions.{committed, first_record, head_record, is_changed_beside, is_dead, is_pending, is_pending_beside, present, slots, versions}
 use Rattle.iso_history.specs.World.{Note, Version}
 use Rattle.iso_history.specs.After.{world}
 use Rattle.iso_record.specs.Undone.{shown}
@@ -19,6 +19,10 @@ use Rattle.iso_types.specs.declared.value.Conn.{Conn}
 use Rattle.iso_types.specs.declared.value.Rid.{Rid}
 use Rattle.iso_types.specs.declared.value.TableId.{TableId}
 use Rattle.iso_types.specs.declared.value.Value.{Value}
+use Rattle.iso_chain.proofs.Pinned.{pin-chain, pin-committed, pin-order}
+use Rattle.iso_chain.specs.Laws.{pinned}
+use Rattle.iso_reads.specs.Answers.{Shows, pin_of}
+use Rattle.iso_reads.specs.declared.outcomes.Looked.TheVariants.{Pinned}
 use Rattle.iso_state.proofs.FactsAlong.{count-of, kept-of}
 use Rattle.iso_state.specs.Stands.{Content, Stands}
 
@@ -51,6 +55,27 @@ with-head false n o e = rw e refl
 pub without-head : (live : Bool) (o : Option ℕ) → o ≡ None → not live ≡ (not live && is_none o)
 without-head true o e = refl
 without-head false o e = rw e refl
+
+-- a slot with a head has a first
+first-there : (vs : List Version) (n : ℕ) → head_record vs ≡ Some n → first_record vs ≡ None → ⊥
+first-there [] n e f = cc
+first-there (v ∷ vs) n e f = go (first_record vs) refl
+  where
+    go : (o : Option ℕ) → first_record vs ≡ o → ⊥
+    go None is = let z : head_record (v ∷ []) ≡ None = rw is at f in let y : Some n ≡ None = sym e ∙ z in cc
+    go (Some k) is = let z : Some k ≡ None = rw is at f in cc
+
+-- what is pending beside a unit is pending
+pub beside-pending : (u : ℕ) (vs : List Version) → is_pending_beside u vs ≡ true → is_pending vs ≡ true
+beside-pending u [] e = cc
+beside-pending u (v ∷ vs) e = go v.pending (not (v.unit == u)) refl (is_pending vs) e (beside-pending u vs)
+  where
+    go : (p q : Bool) → v.pending ≡ p → (b : Bool) → (v.pending && not (v.unit == u) || is_pending_beside u vs) ≡ true
+        → (is_pending_beside u vs ≡ true → is_pending vs ≡ true) → (v.pending || is_pending vs) ≡ true
+    go true q is b e more = rw is refl
+    go false q is b e more =
+        let rest : is_pending_beside u vs ≡ true = sym (ap (λ (z : Bool). z && not (v.unit == u) || is_pending_beside u vs) is) ∙ e in
+        ap (λ (z : Bool). z || is_pending vs) is ∙ more rest
 
 -- what is pending is another unit's where the last version's record is
 unit-beside : (u v : ℕ) (vs : List Version) → AllOfUnit v vs → (not (v == u) || is_pending_beside u vs) ≡ not (v == u)
@@ -138,3 +163,41 @@ module _ (p : Content) (s : Stands p) (t : TableId) (r : Rid) where
           ≡ option_map_or (is_in_window p.head (world p.head p.history)) o true
       at None = refl
       at (Some n) = let few = count-of s in let wide = s.bounds.window in rw (few, wide) refl
+
+  -- the records of a slot with a pending version
+  has-head : is_pending (versions (world p.head p.history) t r) ≡ true → (n : ℕ) × ((slot_in p.chain.tables t r).head ≡ Some n)
+  has-head e = go (versions (world p.head p.history) t r) pile refl e
+    where
+      go : (xs : List Version) → Piled (world p.head p.history).records t r xs → versions (world p.head p.history) t r ≡ xs → is_pending xs ≡ true
+          → (n : ℕ) × ((slot_in p.chain.tables t r).head ≡ Some n)
+      go [] h is e = cc
+      go (v ∷ vs) h is e = at v.pending refl
+        where
+          at : (q : Bool) → v.pending ≡ q → (n : ℕ) × ((slot_in p.chain.tables t r).head ≡ Some n)
+          at true q = (v.number, slot.head ∙ ap (λ (zs : List Version). head_record zs) is ∙ ap (λ (b : Bool). if b then Some v.number else None) q)
+          at false q = let n = none-pending vs (h.1 q) in let z : false ≡ true = sym n ∙ sym (ap (λ (b : Bool). b || is_pending vs) q) ∙ e in absurd (cc)
+
+  pub no-head : (slot_in p.chain.tables t r).head ≡ None → is_pending (versions (world p.head p.history) t r) ≡ true → ⊥
+  no-head none e = let h = has-head e in let z : None ≡ Some h.0 = sym none ∙ h.1 in cc
+
+  pub pin-ordered : (first head : ℕ) → (slot_in p.chain.tables t r).first ≡ Some first → (slot_in p.chain.tables t r).head ≡ Some head → first ≤ head
+  pin-ordered first head least last =
+      pin-order (world p.head p.history) p.chain.log t r (slot_in p.chain.tables t r) first head s.parts.chain.log (kept-of s).recorded (kept-of s).piled slot last least
+
+  no-first : (n : ℕ) → (slot_in p.chain.tables t r).first ≡ None → (slot_in p.chain.tables t r).head ≡ Some n → ⊥
+  no-first n none last = first-there (versions (world p.head p.history) t r) n (sym slot.head ∙ last) (sym slot.first ∙ none)
+
+  -- what is rebuilt of the pin is the committed row
+  pub pin-shows : is_pending (versions (world p.head p.history) t r) ≡ true → Shows (Pinned (pin_of p t r)) (committed (versions (world p.head p.history) t r))
+  pin-shows e = go (has-head e) (slot_in p.chain.tables t r).first refl
+    where
+      go : (n : ℕ) × ((slot_in p.chain.tables t r).head ≡ Some n) → (o : Option ℕ) → (slot_in p.chain.tables t r).first ≡ o
+          → Shows (Pinned (pin_of p t r)) (committed (versions (world p.head p.history) t r))
+      go (n, last) None none = absurd (no-first n none last)
+      go (n, last) (Some first) least =
+          let head-is : unwrap_or (slot_in p.chain.tables t r).head 0 ≡ n = ap (λ (o : Option ℕ). unwrap_or o 0) last in
+          let first-is : unwrap_or (slot_in p.chain.tables t r).first 0 ≡ first = ap (λ (o : Option ℕ). unwrap_or o 0) least in
+          subst (λ (a : ℕ). Shows (Pinned (pinned p.chain.log (slot_in p.chain.tables t r) a (unwrap_or (slot_in p.chain.tables t r).head 0))) (committed (versions (world p.head p.history) t r))) (sym first-is)
+          (subst (λ (b : ℕ). Shows (Pinned (pinned p.chain.log (slot_in p.chain.tables t r) first b)) (committed (versions (world p.head p.history) t r))) (sym head-is)
+          (pin-chain (world p.head p.history) p.chain.log t r (slot_in p.chain.tables t r) first n s.parts.chain.log (kept-of s).recorded (kept-of s).piled slot last least,
+          pin-committed (world p.head p.history) p.chain.log t r (slot_in p.chain.tables t r) first n s.parts.chain.log (kept-of s).recorded (kept-of s).piled slot last least))

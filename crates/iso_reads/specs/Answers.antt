@@ -1,5 +1,5 @@
 -- What a look places and asks, and its answer.
-use Rattle.std.specs.Prelude.{◌≡◌, Bool, Option, List, false, not, ◌&&◌, if◌then◌else◌, is_some, nat_lt, unwrap_or}
+use Rattle.std.specs.Prelude.{true, ◌≡◌, Bool, Option, List, false, not, ◌&&◌, if◌then◌else◌, is_some, nat_lt, unwrap_or}
 use Rattle.iso_chain.specs.Laws.{pinned}
 use Rattle.iso_chain.specs.Slots.{slot_in}
 use Rattle.iso_history.specs.After.{world}
@@ -10,8 +10,6 @@ use Rattle.iso_history.specs.Requests.{Outcome}
 use Rattle.iso_history.specs.Requests.Outcome.{Gives, Limit}
 use Rattle.iso_history.specs.Versions.{is_changed_beside, is_dead, slots, versions}
 use Rattle.iso_history.specs.World.{World}
-use Rattle.iso_history.specs.declared.entry.Act.{Act}
-use Rattle.iso_history.specs.declared.entry.Act.TheVariants.{Lock, Refused as Refusal}
 use Rattle.iso_history.specs.declared.entry.Got.{Got}
 use Rattle.iso_history.specs.declared.entry.Want.{Want}
 use Rattle.iso_history.specs.declared.entry.Want.TheVariants.{Alter, AlterKept, Dirty, Repeat}
@@ -20,11 +18,12 @@ use Rattle.iso_modes.specs.declared.Mode.TheVariants.{Ns, S, U}
 use Rattle.iso_rebuild.specs.Chains.{HasChain, IsRebuilt}
 use Rattle.iso_rebuild.specs.declared.past.Past.{Past}
 use Rattle.iso_types.specs.declared.value.Conn.{Conn}
-use Rattle.iso_types.specs.declared.value.Name.TheVariants.{Table}
 use Rattle.iso_types.specs.declared.value.Rid.{Rid}
 use Rattle.iso_types.specs.declared.value.TableId.{TableId}
 use Rattle.iso_types.specs.declared.value.Value.{Value}
 use Rattle.iso_state.specs.Stands.{Content}
+use Rattle.iso_locks.specs.Answers.{answer_of}
+use Rattle.iso_locks.specs.declared.locking.Answer.{Answer}
 use Rattle.iso_reads.specs.declared.outcomes.Looked.{Looked}
 use Rattle.iso_reads.specs.declared.outcomes.Looked.TheVariants.{EndOfTable, Escalates, Pinned, Queued, Refused, Shown, TimedOut}
 
@@ -53,11 +52,10 @@ abbrev pub seen : Content → Conn → TableId → Rid → Want → Looked
 seen p c t r want = let w = world p.head p.history in
     if is_beside w c t r want then Pinned (pin_of p t r) else Shown (shown w c t r want)
 
--- the answer at the lock limit, by what is recorded there
-abbrev pub limited : Act → Looked
-limited (Lock (Table t) m term why Got.Granted) = Escalates t
-limited (Lock (Table t) m term why (Got.Queued to)) = Escalates t
-limited (Refusal code) = Refused code
+-- the answer at the lock limit: a table's lock was asked for instead, or it timed out, or there is no such table
+abbrev pub limited : Answer → Looked
+limited (Answer.Escalates t) = Escalates t
+limited (Answer.Refused code) = Refused code
 limited _ = TimedOut
 
 -- the answer to a look at a slot, by its outcome
@@ -65,7 +63,7 @@ abbrev pub answer_by : Content → Conn → TableId → Rid → Want → Outcome
 answer_by p c t r want (Gives Got.Granted) = seen p c t r want
 answer_by p c t r want (Gives (Got.Queued m)) = Queued
 answer_by p c t r want (Gives Got.TimedOut) = TimedOut
-answer_by p c t r want Limit = limited (at_limit p.head (world p.head p.history) c)
+answer_by p c t r want Limit = limited (answer_of (at_limit p.head (world p.head p.history) c))
 
 -- the answer to a look, or behind the last slot
 abbrev pub answer_at : Content → Conn → TableId → Rid → Want → Looked
@@ -77,3 +75,9 @@ abbrev pub Shows : Looked → Option (List Value) → Type 0
 Shows (Shown row) is = row ≡ is
 Shows (Pinned past) is = HasChain past × ((row : Option (List Value)) → IsRebuilt past row → row ≡ is)
 Shows _ is = Unit {0}
+
+-- what comes at the lock limit
+abbrev pub comes_at_limit : Answer → Bool
+comes_at_limit Answer.Done = false
+comes_at_limit Answer.Queued = false
+comes_at_limit _ = true

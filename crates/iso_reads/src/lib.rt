@@ -2,5 +2,11 @@
 #![tactic(auto)]
 
 mod asking;
+mod laws;
+mod looking;
 mod outcomes;
 mod slots;
+
+pub use laws::pins_are_current;
+pub use looking::look;
+pub use outcomes::Looked;

@@ -1,14 +1,13 @@
 //! What a look reads of a slot: whether it is dead, whether another unit changed it, and what is seen of it.
-ghost use Rattle.std.specs.Option.{option_map_or};
-ghost use Rattle.std.specs.Prelude.{◌≡◌, ◌<◌, not, ◌==◌, false, length, unwrap_or, IfOk, IsSome};
-ghost use Rattle.iso_chain.specs.Laws.{pinned};
+ghost use Rattle.std.specs.Prelude.{◌≡◌, ◌<◌, true, length, nat_lt, IfOk};
 ghost use Rattle.iso_chain.specs.Logs.{record_at};
 ghost use Rattle.iso_chain.specs.Slots.{slot_in};
 ghost use Rattle.iso_chain.specs.Views.{bare};
 ghost use Rattle.iso_history.specs.Looks.{is_first_in_window as is_in_window};
 ghost use Rattle.iso_history.specs.Units.{unit_of as unit_in};
-ghost use Rattle.iso_history.specs.Versions.{is_changed_beside as is_beside, is_dead as dead, present, slots, versions};
-ghost use Rattle.iso_state.specs.Stands.{StandsFor, world_of};
+ghost use Rattle.iso_history.specs.Versions.{is_changed_beside as is_beside, is_dead as dead, is_pending, present, slots, versions};
+ghost use Rattle.iso_state.specs.Stands.{StandsFor, content_of, world_of};
+ghost use Rattle.iso_reads.specs.Answers.{pin_of};
 
 use iso_chain::{pin_slot, slot_of};
 use iso_rebuild::Past;
@@ -103,5 +102,33 @@ pub fn present_row(
         Ok(Some(slot.row.copied(alloc)?))
     } else {
         Ok(None)
+    }
+}
+
+/// Whether the table has such a slot.
+pub fn is_slot(parts: &Parts, table: TableId, rid: Rid) -> bool
+    requires stands { StandsFor parts.now }
+    ensures { result ≡ nat_lt rid.0 (slots (world_of parts.now) table) }
+{
+    match parts.tables.get(table.0 as usize) {
+        Some(slots) => rid.0 < slots.slots(),
+        None => false,
+    }
+}
+
+/// The slot as it stands, with the log's own records from its first to its head; `Memory` where there is none for them.
+pub fn pin_at(alloc: Global, parts: &Parts, table: TableId, rid: Rid) -> Result<Past, Memory>
+    requires stands { StandsFor parts.now }
+    requires rid { rid.0 < slots (world_of parts.now) table }
+    requires pending { is_pending (versions (world_of parts.now) table rid) ≡ true }
+    ensures { IfOk result (λ past. past ≡ pin_of (content_of parts.now) table rid) }
+{
+    let slot = slot_at(parts, table, rid);
+    match slot.head {
+        Some(head) => match slot.first {
+            Some(first) => pin_slot(alloc, &parts.tables, &parts.log, table, rid, first, head),
+            None => unreachable!(),
+        },
+        None => unreachable!(),
     }
 }
