@@ -1,3 +1,5 @@
 pub mod EdgeBits
 pub mod Graphs
 pub mod Walks
+pub mod Stills
+pub mod Rolls

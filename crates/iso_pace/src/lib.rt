@@ -3,7 +3,9 @@
 #![tactic(auto)]
 
 mod cycles;
+mod lines;
 mod resting;
 
 pub use cycles::cyclic;
+pub use lines::{Paced, expire};
 pub use resting::{able, quiet};

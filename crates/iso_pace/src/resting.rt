@@ -23,7 +23,7 @@ pub(crate) fn phase_of(parts: &Parts, conn: Conn) -> Phase
 
 /// Whether the phases are the same.
 #[tactic(auto, unfolding(iso_history::specs::Phases::is_phase, iso_history::specs::Phases::phase_number))]
-fn same_phase(a: Phase, b: Phase) -> bool
+pub(crate) fn same_phase(a: Phase, b: Phase) -> bool
     ensures { result ≡ is_phase a b }
 {
     a == b
