@@ -5,6 +5,7 @@ use Rattle.iso_history.specs.After.{after}
 use Rattle.iso_history.specs.Legal.{Allowed}
 use Rattle.iso_history.specs.Makers.{by_dispatcher}
 use Rattle.iso_history.specs.Stops.{may_halt}
+use Rattle.iso_history.specs.World.{Pace}
 use Rattle.iso_history.specs.declared.entry.Act.TheVariants.{Stopped}
 use Rattle.iso_history.specs.declared.entry.Cause.{Cause}
 use Rattle.iso_state.proofs.ByKind.{reserved-covers}
@@ -15,6 +16,10 @@ use Rattle.iso_state.specs.Stands.{StandsFor, content_of, desk_at, world_of}
 use Rattle.iso_state.specs.Steps.{Spends}
 use Rattle.iso_state.specs.declared.parts.Parts.{Parts}
 
+-- the dispatcher's state once it has stopped
+abbrev pub halted : Pace → Pace
+halted q = record q { purged = false; stopped = true; halted = true }
+
 module _ (p q : Parts) (cause : Cause) (s : StandsFor p) (free : (world_of p).pace.finished ≡ false) (may : may_halt p.head (world_of p) cause ≡ true) where
   may-halt : Allowed p.head (world_of p) (by_dispatcher (Stopped cause))
   may-halt = (is-open (world_of p) free, refl, may)
@@ -22,7 +27,7 @@ module _ (p q : Parts) (cause : Cause) (s : StandsFor p) (free : (world_of p).pa
   pub halt-covers : 1 ≤ p.reserved
   halt-covers = let k = reserved-covers (content_of p) (by_dispatcher (Stopped cause)) s.stands may-halt in omega (arith, k)
 
-  pub halt-place : Spends p q → content_of q ≡ noted (record (content_of p) { reserved = p.reserved - 1 }) (by_dispatcher (Stopped cause)) → StandsFor q
+  pub halt-place : Spends p q → content_of q ≡ noted (record (content_of p) { reserved = p.reserved - 1; pace = halted (content_of p).pace }) (by_dispatcher (Stopped cause)) → StandsFor q
   halt-place spends wrote =
       let covers = halt-covers in
       let more = spends.log in

@@ -4,6 +4,7 @@ use Rattle.std.specs.Prelude.{slice_set}
 use Rattle.iso_chain.specs.Stands.{Chained}
 use Rattle.iso_history.specs.Legal.{Allowed, ByAgent}
 use Rattle.iso_history.specs.Makers.{by_agent}
+use Rattle.iso_history.specs.Paces.{pace_by}
 use Rattle.iso_history.specs.Reserves.{log_room_of, records_of, reserves_less, reserves_more}
 use Rattle.iso_history.specs.Stops.{is_full, is_never_refused}
 use Rattle.iso_history.specs.World.{World}
@@ -14,7 +15,7 @@ use Rattle.iso_types.specs.declared.desk.Desk.{Desk}
 use Rattle.iso_types.specs.declared.value.Conn.{Conn}
 use Rattle.iso_state.proofs.ByKind.{full-is, ready-allowed, reserved-covers}
 use Rattle.iso_state.proofs.Steps.{IsOwn, conn-is, is-open, own-place}
-use Rattle.iso_state.specs.Changes.{stepped}
+use Rattle.iso_state.specs.Changes.{repaced, stepped}
 use Rattle.iso_state.specs.Stands.{StandsFor, content_of, world_of}
 use Rattle.iso_state.specs.Steps.{IsReady, Spends, is_past}
 use Rattle.iso_state.specs.declared.parts.Parts.{Parts}
@@ -44,7 +45,7 @@ module _ (p : Parts) (c : Conn) (a : Act) (s : StandsFor p) (free : (world_of p)
   -- the parts after it
   pub free-place : (q : Parts) (k : Chained) (l : Ledger) (d : Desk) (n : ℕ) → IsFree a → p.history.spare ≤ q.history.spare + 1
       → p.log.spare ≤ q.log.spare + records_of a → IsOwn (content_of p) c a k l d n
-      → content_of q ≡ stepped (content_of p) k l (slice_set p.desks c.0 d) n (by_agent c a) → StandsFor q
+      → content_of q ≡ repaced (stepped (content_of p) k l (slice_set p.desks c.0 d) n (by_agent c a)) (pace_by (content_of p).pace (Agent c) a) → StandsFor q
   free-place q k l d n is pushed logged own wrote =
       rw wrote (own-place (content_of p) c a k l d n p.history.spare q.history.spare p.log.spare q.log.spare s (free-allowed is.never)
       (record { made = inr is.never; pushed = pushed; logged = logged; bare = is.unlogged }) own)
@@ -59,7 +60,7 @@ module _ (p : Parts) (c : Conn) (a : Act) (s : StandsFor p) (free : (world_of p)
   -- the parts after an entry for which room was made
   pub plain-place : (q : Parts) (k : Chained) (l : Ledger) (d : Desk) → IsPlain (world_of p) c a → IsReady p 1 → Spends p q
       → IsOwn (content_of p) c a k l d p.reserved
-      → content_of q ≡ stepped (content_of p) k l (slice_set p.desks c.0 d) p.reserved (by_agent c a) → StandsFor q
+      → content_of q ≡ repaced (stepped (content_of p) k l (slice_set p.desks c.0 d) p.reserved (by_agent c a)) (pace_by (content_of p).pace (Agent c) a) → StandsFor q
   plain-place q k l d is ready spends own wrote =
       let none = is.more in
       let less = is.less in

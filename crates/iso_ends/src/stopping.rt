@@ -21,6 +21,7 @@ fn stop(parts: &mut Parts, conn: Conn, cause: Cause)
     ensures entry { parts.new.history.items ≡ parts.old.history.items ++ by_agent conn (Act.Stopped cause) ∷ [] }
 {
     parts.reserved -= 1;
+    parts.pace.stopped = true;
     parts.locks.settle(conn, None);
     parts.locks.cancel(conn);
     let desk = Desk {
@@ -43,6 +44,9 @@ fn halt(parts: &mut Parts, cause: Cause)
     ensures entry { parts.new.history.items ≡ parts.old.history.items ++ by_dispatcher (Act.Stopped cause) ∷ [] }
 {
     parts.reserved -= 1;
+    parts.pace.purged = false;
+    parts.pace.stopped = true;
+    parts.pace.halted = true;
     let who = Who::Dispatcher;
     let act = Act::Stopped { cause };
     note(parts, Entry { who, act });

@@ -1,4 +1,4 @@
-use Rattle.std.proofs.Common.{◌∙◌, ◌-◌, ap, refl, arith, false}
+use Rattle.std.proofs.Common.{◌∙◌, ◌-◌, ap, refl, arith, true, false}
 use Rattle.iso_history.specs.After.{after}
 use Rattle.iso_history.specs.Legal.{ByAgent}
 use Rattle.iso_history.specs.Makers.{by_agent}
@@ -23,7 +23,7 @@ returns-clause-stands c =
     let covers = free-covers p c.args.conn a c.requires.stands c.requires.open c.requires.conn by refl in
     let spent = c.move_to.ensures.spends in
     let k = content_of p in
-    let after_all : Content = record k { locks = l; reserved = p.reserved - 1 } in
+    let after_all : Content = record k { locks = l; reserved = p.reserved - 1; pace = record k.pace { stopped = true } } in
     free-place p c.args.conn a c.requires.stands c.requires.open c.requires.conn by q k.chain l
     (record (desk_at p.desks c.args.conn) { phase = Closing; claimed = false }) (p.reserved - 1) (record { never = refl; unlogged = refl })
     spent.history (omega (arith, spent.log))
