@@ -198,6 +198,7 @@ module _ (p : Content) (s : Stands p) (t : TableId) (r : Rid) where
           let head-is : unwrap_or (slot_in p.chain.tables t r).head 0 ≡ n = ap (λ (o : Option ℕ). unwrap_or o 0) last in
           let first-is : unwrap_or (slot_in p.chain.tables t r).first 0 ≡ first = ap (λ (o : Option ℕ). unwrap_or o 0) least in
           subst (λ (a : ℕ). Shows (Pinned (pinned p.chain.log (slot_in p.chain.tables t r) a (unwrap_or (slot_in p.chain.tables t r).head 0))) (committed (versions (world p.head p.history) t r))) (sym first-is)
-          (subst (λ (b : ℕ). Shows (Pinned (pinned p.chain.log (slot_in p.chain.tables t r) first b)) (committed (versions (world p.head p.history) t r))) (sym head-is)
-          (pin-chain (world p.head p.history) p.chain.log t r (slot_in p.chain.tables t r) first n s.parts.chain.log (kept-of s).recorded (kept-of s).piled slot last least,
-          pin-committed (world p.head p.history) p.chain.log t r (slot_in p.chain.tables t r) first n s.parts.chain.log (kept-of s).recorded (kept-of s).piled slot last least))
+          (subst (λ (b : ℕ). Shows (Pinned (pinned p.chain.log (slot_in p.chain.tables t r) first b)) (committed (versions (world p.head p.history) t r))) (sym head-is) (
+            pin-chain (world p.head p.history) p.chain.log t r (slot_in p.chain.tables t r) first n s.parts.chain.log (kept-of s).recorded (kept-of s).piled slot last least,
+            pin-committed (world p.head p.history) p.chain.log t r (slot_in p.chain.tables t r) first n s.parts.chain.log (kept-of s).recorded (kept-of s).piled slot last least,
+          ))

@@ -71,7 +71,11 @@ pub fn pass(
     make_room(parts, 1)?;
     let spare = spare_for(parts, conn, &Name::Row(table, rid));
     parts.locks.settle(conn, spare);
-    enter(parts, conn, look_entry(conn, table, rid, want, Got::Granted));
+    enter(
+        parts,
+        conn,
+        look_entry(conn, table, rid, want, Got::Granted),
+    );
     Ok(())
 }
 
@@ -98,8 +102,19 @@ pub fn take_row(
 {
     make_room(parts, 1)?;
     let claimed = has_claimed(parts, conn);
-    take(parts, conn, &Name::Row(table, rid), mode_of(want), term_of(want), claimed)?;
-    enter(parts, conn, look_entry(conn, table, rid, want, Got::Granted));
+    take(
+        parts,
+        conn,
+        &Name::Row(table, rid),
+        mode_of(want),
+        term_of(want),
+        claimed,
+    )?;
+    enter(
+        parts,
+        conn,
+        look_entry(conn, table, rid, want, Got::Granted),
+    );
     Ok(())
 }
 
@@ -134,7 +149,12 @@ pub fn wait(
         claimed: false,
         ..desk_of(parts, conn)
     };
-    move_to(parts, conn, desk, look_entry(conn, table, rid, want, Got::Queued(to)));
+    move_to(
+        parts,
+        conn,
+        desk,
+        look_entry(conn, table, rid, want, Got::Queued(to)),
+    );
     Ok(())
 }
 
@@ -168,7 +188,12 @@ pub fn time_out(
         claimed: false,
         ..desk_of(parts, conn)
     };
-    move_to(parts, conn, desk, look_entry(conn, table, rid, want, Got::TimedOut));
+    move_to(
+        parts,
+        conn,
+        desk,
+        look_entry(conn, table, rid, want, Got::TimedOut),
+    );
     Ok(())
 }
 
