@@ -5,14 +5,19 @@
 use iso_engine::db2iso;
 use iso_io::{SinkStd, SourceStd};
 use iso_types::OpenGate;
+use std::io::ErrorKind;
 use std::process::ExitCode;
 use std::rt::Env;
 use std::{env, io};
+
+// The status of want of memory.
+const NO_MEMORY: u8 = 5;
 
 fn main(rt: HostRuntime) -> ExitCode {
     // words that are no text are no row of the job table, as no words are
     let words = match words(&rt) {
         Ok(words) => words,
+        Err(error) if error.kind() == ErrorKind::OutOfMemory => return ExitCode::from(NO_MEMORY),
         Err(_) => Vec::new(rt.alloc()),
     };
     let mut source = SourceStd::new(rt.reader());

@@ -24,3 +24,4 @@ pub mod ProgressOver
 pub mod ProgressEdges
 pub mod Progress
 pub mod Fitting
+pub mod Leads

@@ -1,36 +1,34 @@
 -- In every legal history without Finish the dispatcher has an entry to make, or an agent is able.
-use Rattle.std.proofs.Common.{◌≡◌, ℕ, ◌≤◌, ◌⊎◌, inl, inr, Bool, true, false, not, ◌&&◌, ◌||◌, List, [], ◌∷◌, map, length, filter, find, refl, sym, ◌∙◌, ap, subst, arith, Option, Some, None, if◌then◌else◌, ◌+◌, is_some, is_none, option_map, MatchOption}
+use Rattle.std.proofs.Common.{◌≡◌, ℕ, ◌≤◌, ◌⊎◌, inl, inr, Bool, true, false, not, ◌&&◌, ◌||◌, List, [], ◌∷◌, map, length, filter, find, refl, sym, subst, arith, Option, Some, None, if◌then◌else◌, ◌+◌, is_some, is_none, option_map, MatchOption}
 use Rattle.std.specs.List.{list_all, list_any}
 use Rattle.std.specs.Option.{option_map_or, option_or}
 use Rattle.std.proofs.lemmas.Bool.{and_from, and_parts, both_ways, not-true}
-use Rattle.iso_conduct.proofs.ProgressEdges.{among-conns, among-kept, among-passes, conns-among, history-targets, stuck-on}
+use Rattle.iso_conduct.proofs.ProgressEdges.{among-conns, among-kept, among-passes, history-targets, stuck-on}
 use Rattle.iso_conduct.proofs.ProgressHolders.{AreLive, IsLive, live-world}
 use Rattle.iso_conduct.proofs.ProgressOver.{EndsOver, left-all, over-world}
-use Rattle.iso_conduct.specs.Pacing.{Paced, is_bare, is_over, line_step, lines_left, purge_of, purge_or_line, step_of, taking}
+use Rattle.iso_conduct.specs.Pacing.{Paced, is_over, line_step, lines_left, purge_of, purge_or_line, step_of, taking}
 use Rattle.iso_conduct.specs.Schedule.{actors, can_act, dispatcher_step, ending_step, first_step}
 use Rattle.iso_history.proofs.limits.Made.{made-is}
 use Rattle.iso_history.proofs.limits.Within.{limit-holds}
 use Rattle.iso_history.specs.After.{world}
 use Rattle.iso_history.specs.Entries.{least_purgeable}
 use Rattle.iso_history.specs.Legal.{Ground}
-use Rattle.iso_history.specs.Makers.{by_dispatcher}
-use Rattle.iso_history.specs.Phases.{is_active, is_phase, phase, phase_of}
+use Rattle.iso_history.specs.Phases.{is_phase, phase, phase_of}
 use Rattle.iso_history.specs.Quiet.{all_ended, cycle_in, edges_in, is_able, is_busy, is_quiet, is_resting, least_idle, waits_stuck}
-use Rattle.iso_history.specs.Stops.{history_limit, is_full, needs}
+use Rattle.iso_history.specs.Stops.{history_limit, needs}
 use Rattle.iso_history.specs.World.{World}
 use Rattle.iso_history.specs.declared.entry.Act.{Act}
-use Rattle.iso_history.specs.declared.entry.Cause.TheVariants.{History}
 use Rattle.iso_history.specs.declared.entry.Entry.{Entry}
 use Rattle.iso_history.specs.declared.entry.Who.{Who}
-use Rattle.iso_history.specs.declared.entry.Who.TheVariants.{Agent, Dispatcher}
-use Rattle.iso_queue.specs.Queues.{Wait, edges, has_edge, is_grantable, is_stuck, is_waiting, wait_of}
+use Rattle.iso_history.specs.declared.entry.Who.TheVariants.{Agent}
+use Rattle.iso_queue.specs.Queues.{Wait, edges, has_edge, is_grantable, wait_of}
 use Rattle.iso_queue.specs.Snapshots.{snapshot}
 use Rattle.iso_script.specs.Sound.{IsSound, is_sound_line, is_sound_what}
 use Rattle.iso_script.specs.declared.script.Line.{Line}
 use Rattle.iso_script.specs.declared.script.Script.{Script}
 use Rattle.iso_script.specs.declared.script.What.{What}
 use Rattle.iso_types.specs.Cycles.{HasNoCycle, IsChosen, IsCycle, chosen_cycle, is_among, is_on_cycle}
-use Rattle.iso_types.specs.Head.{conns, is_conn}
+use Rattle.iso_types.specs.Head.{conns}
 use Rattle.iso_types.specs.declared.desk.Phase.{Phase}
 use Rattle.iso_types.specs.declared.desk.Phase.TheVariants.{Closing, Idle, Rolling, Running}
 use Rattle.iso_types.specs.declared.head.Head.{Head}
@@ -220,9 +218,11 @@ module _ (head : Head) (w : World) (ls : List Line) (live : AreLive head w) (ove
       inside d i =
           let p : (is_among d (conns head) ≡ true) × (not (w.ended d) ≡ true) = among-passes (λ e. not (w.ended e)) d (conns head) i in
           let s : (x : Wait) × (wait_of w.waits d ≡ Some x) × (has_edge w.holds w.waits x ≡ true) = waits-on d p.0 (busy d p.0) (not-true (w.ended d) p.1) in
-          let t : (e : Conn) × IsLive head w.ended e × (is_among e (edges (conns head) w.holds w.waits d) ≡ true) = stuck-on head w d s.0 live s.1 s.2 in
-          (t.0, among-kept (λ f. not (w.ended f)) t.0 (conns head) (among-conns head t.0 t.1.0) (rw t.1.1 refl),
-           and_from (is_among d (conns head)) (is_among t.0 (edges_in head w d)) p.0 t.2)
+          let t : (e : Conn) × IsLive head w.ended e × (is_among e (edges (conns head) w.holds w.waits d) ≡ true) = stuck-on head w d s.0 live s.1 s.2 in (
+            t.0,
+            among-kept (λ f. not (w.ended f)) t.0 (conns head) (among-conns head t.0 t.1.0) (rw t.1.1 refl),
+            and_from (is_among d (conns head)) (is_among t.0 (edges_in head w d)) p.0 t.2,
+          )
 
   ending-some : ending_step head w ≡ None → ⊥
   ending-some e =
@@ -267,21 +267,21 @@ module _ (head : Head) (w : World) (ls : List Line) (live : AreLive head w) (ove
           (on-cycle (edge_in head w) (edges_in head w) (conns head) (targets-in head w) c).0 e in
           absurd (no-cycle head w none t.0 t.1)
 
-    step-some : (n : ℕ) (what : What) (o : Option Conn) → is_sound_what head o what ≡ true → step_of head w n what o ≡ None → ⊥
-    step-some n (What.Statement s) (Some c) sound e = go (is_phase (phase w c) Idle) refl (is_busy head w c) refl e where
+    step-some : (n : ℕ) (what : What) (o : Option Conn) (free : Bool) → is_sound_what head o what free ≡ true → step_of head w n what o ≡ None → ⊥
+    step-some n (What.Statement s) (Some c) free sound e = go (is_phase (phase w c) Idle) refl (is_busy head w c) refl e where
       go : (i : Bool) → is_phase (phase w c) Idle ≡ i → (b : Bool) → is_busy head w c ≡ b
           → (if i then Some (Act.Dispatch n c) else if b then Some (Act.Busy n c) else None) ≡ None → ⊥
       go true idle b busy k = not-some (Act.Dispatch n c) k
       go false idle true busy k = not-some (Act.Busy n c) k
       go false idle false busy k =
           both_ways (is_busy head w c) busy (busy-if c (among-conns head c (and_parts _ _ sound).0) idle)
-    step-some n (What.Statement s) None sound e = both_ways false refl sound
-    step-some n What.Expire (Some c) sound e = not-some (Act.Expire n c (is_phase (phase w c) Phase.Waiting)) e
-    step-some n What.Expire None sound e = both_ways false refl sound
-    step-some n What.Snapshot o sound e = not-some (Act.Snapshot n (snapshot head w.holds w.waits)) e
+    step-some n (What.Statement s) None free sound e = both_ways false refl sound
+    step-some n What.Expire (Some c) free sound e = not-some (Act.Expire n c (is_phase (phase w c) Phase.Waiting)) e
+    step-some n What.Expire None free sound e = both_ways false refl sound
+    step-some n What.Snapshot o free sound e = not-some (Act.Snapshot n (snapshot head w.holds w.waits)) e
 
     line-some : (l : Line) → is_sound_line head l ≡ true → line_step head w l ≡ None → ⊥
-    line-some l sound e = step-some l.number l.what l.conn sound (past l.free e) where
+    line-some l sound e = step-some l.number l.what l.conn l.free sound (past l.free e) where
       past : (b : Bool) → (if b || is_quiet head w then step_of head w l.number l.what l.conn else None) ≡ None → step_of head w l.number l.what l.conn ≡ None
       past true k = k
       past false k = rw quiet at k

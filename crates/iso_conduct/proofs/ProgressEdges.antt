@@ -1,14 +1,12 @@
 -- The edges of a history, as targets of a test; and that who waits with an edge has one to a connection of the head that has not ended.
-use Rattle.std.proofs.Common.{◌≡◌, ℕ, zero, suc, ◌+◌, ◌<◌, ◌≤◌, ◌⊎◌, inl, inr, Bool, true, false, not, ◌&&◌, ◌||◌, List, [], ◌∷◌, ◌++◌, map, length, filter, find, take, take_while, refl, sym, ◌∙◌, ap, subst, arith, Option, Some, None}
+use Rattle.std.proofs.Common.{◌≡◌, ℕ, zero, suc, ◌+◌, ◌<◌, ◌≤◌, inl, inr, Bool, true, false, not, ◌&&◌, ◌||◌, List, [], ◌∷◌, ◌++◌, map, length, filter, refl, sym, ◌∙◌, ap, subst, arith, Option, Some, None}
 use Rattle.std.specs.List.{AllByRecursion, list_any, prefix_len, range_with_len}
 use Rattle.std.specs.Option.{option_map_or}
-use Rattle.std.specs.Prelude.{nat_lt}
 use Rattle.std.proofs.lemmas.Bool.{both_ways, cases_eq, lt-ltb, ltb-true, or_cases}
-use Rattle.iso_conduct.proofs.Open.{eq-is, eq-same}
 use Rattle.iso_conduct.proofs.ProgressHolders.{AreLive, IsLive, all-filter, all-take}
 use Rattle.iso_history.specs.World.{World}
 use Rattle.iso_queue.specs.Locks.{Hold}
-use Rattle.iso_queue.specs.Queues.{Wait, ahead, blockers, edges, has_edge, opposes, queue, wait_of}
+use Rattle.iso_queue.specs.Queues.{Wait, ahead, blockers, edges, has_edge, opposes, wait_of}
 use Rattle.iso_types.specs.Cycles.{is_among}
 use Rattle.iso_types.specs.Edges.{leads}
 use Rattle.iso_types.specs.Head.{conns, is_conn}

@@ -1,16 +1,15 @@
 -- Who holds or awaits a name is a connection of the head that has not ended.
-use Rattle.std.proofs.Common.{◌≡◌, ℕ, zero, suc, Bool, true, false, not, ◌&&◌, ◌||◌, List, [], ◌∷◌, map, take, filter, refl, sym, ◌∙◌, ap, subst, Option, Some, None, if◌then◌else◌, ◌==◌}
+use Rattle.std.proofs.Common.{◌≡◌, ℕ, zero, suc, Bool, true, false, not, ◌&&◌, ◌||◌, List, [], ◌∷◌, take, filter, refl, sym, ap, subst, Option, Some, None}
 use Rattle.std.specs.List.{AllByRecursion}
 use Rattle.std.specs.Option.{option_map_or}
 use Rattle.std.proofs.lemmas.Bool.{and_parts, both_ways, not-true}
-use Rattle.iso_conduct.proofs.Open.{eq-is, eq-same}
 use Rattle.iso_history.proofs.Snoc.{along}
-use Rattle.iso_history.specs.After.{after, start, world}
+use Rattle.iso_history.specs.After.{after, world}
 use Rattle.iso_history.specs.Holds.{Hand, hand_of, holds_by_agent, holds_by_hand, spared}
 use Rattle.iso_history.specs.Holds.Hand.{Collapses, Drops, Frees, Leaves, Places}
-use Rattle.iso_history.specs.Legal.{Allowed, By, ByAgent, Ground, RollbackStands}
-use Rattle.iso_history.specs.Phases.{ended_by, is_active, is_phase, phase, victim}
-use Rattle.iso_history.specs.Waits.{Joining, joining_of, joining_of_agent, joining_of_dispatcher, waits_by}
+use Rattle.iso_history.specs.Legal.{By, ByAgent, Ground, RollbackStands}
+use Rattle.iso_history.specs.Phases.{ended_by, is_phase, phase, victim}
+use Rattle.iso_history.specs.Waits.{Joining, joining_of_agent, joining_of_dispatcher, waits_by}
 use Rattle.iso_history.specs.Waits.Joining.{Joins, Passes, Quits}
 use Rattle.iso_history.specs.World.{World, at_conn}
 use Rattle.iso_history.specs.declared.entry.Act.{Act}
@@ -22,13 +21,13 @@ use Rattle.iso_history.specs.declared.entry.Stand.{Stand}
 use Rattle.iso_history.specs.declared.entry.Who.{Who}
 use Rattle.iso_history.specs.declared.entry.Who.TheVariants.{Agent, Dispatcher}
 use Rattle.iso_modes.specs.Terms.{is_fresh}
-use Rattle.iso_queue.specs.Locks.{Hold, Request, added, all_placed, is_covered, is_hold_of, is_spared, placed, raised, settled, settled_one}
-use Rattle.iso_queue.specs.Queues.{Wait, is_new_beside, queued, unqueued}
+use Rattle.iso_queue.specs.Locks.{Hold, Request, added, all_placed, is_covered, is_hold_of, is_spared, placed, settled, settled_one}
+use Rattle.iso_queue.specs.Queues.{Wait, is_new_beside, queued}
 use Rattle.iso_queue.specs.Locks.{is_held}
 use Rattle.iso_types.specs.Head.{is_conn}
 use Rattle.iso_types.specs.Ids.{conn_eq}
 use Rattle.iso_types.specs.declared.desk.Phase.{Phase}
-use Rattle.iso_types.specs.declared.desk.Phase.TheVariants.{Closing, Idle, Rolling, Running}
+use Rattle.iso_types.specs.declared.desk.Phase.TheVariants.{Closing, Rolling, Running}
 use Rattle.iso_types.specs.declared.head.Head.{Head}
 use Rattle.iso_types.specs.declared.value.Conn.{Conn}
 use Rattle.iso_types.specs.declared.value.Name.{Name}
@@ -224,9 +223,9 @@ live-by head w (Agent c) a al l = go a al.1 where
   kept b by same =
       record {
         holds = subst (λ (f : Conn → Bool). AllByRecursion (λ (h : Hold). IsLive head f h.conn) (holds_by_agent head w c b)) (sym same)
-        (held-by (IsLive head w.ended) c (alive b by) head w b l.holds);
+            (held-by (IsLive head w.ended) c (alive b by) head w b l.holds);
         waits = subst (λ (f : Conn → Bool). AllByRecursion (λ (x : Wait). IsLive head f x.conn) (waits_by w (joining_of_agent w c b))) (sym same)
-        (waits-all (IsLive head w.ended) w (joining_of_agent w c b) (joins-own (IsLive head w.ended) w c b (alive b by)) l.waits);
+            (waits-all (IsLive head w.ended) w (joining_of_agent w c b) (joins-own (IsLive head w.ended) w c b (alive b by)) l.waits);
       }
 
   go : (b : Act) → ByAgent head w c b → AreLive head (after head w (record { who = Agent c; act = b }))
@@ -234,7 +233,7 @@ live-by head w (Agent c) a al l = go a al.1 where
       record {
         holds = held-ended (IsLive head w.ended) c (IsLive head (at_conn w.ended c true)) later head w l.holds;
         waits = all-filter (λ (y : Wait). IsLive head w.ended y.conn) (λ (y : Wait). IsLive head (at_conn w.ended c true) y.conn) _
-        (λ x p e. later x.conn p (not-true (conn_eq x.conn c) e)) w.waits l.waits;
+            (λ x p e. later x.conn p (not-true (conn_eq x.conn c) e)) w.waits l.waits;
       }
   go (Stopped cause) by = kept (Stopped cause) by refl
   go b by = kept b by refl

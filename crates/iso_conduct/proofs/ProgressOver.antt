@@ -1,14 +1,13 @@
 -- A connection closes, or has ended, only where no line is left or a Stopped stands; and the lines that are left are some of the script's.
-use Rattle.std.proofs.Common.{◌≡◌, ℕ, Bool, true, false, ◌&&◌, ◌||◌, List, [], ◌∷◌, refl, sym, ◌∙◌, ap, subst, Option, Some, None, if◌then◌else◌, ◌⊎◌, inl, inr}
+use Rattle.std.proofs.Common.{◌≡◌, Bool, true, false, ◌||◌, List, [], ◌∷◌, refl, if◌then◌else◌, inl, inr}
 use Rattle.std.specs.List.{list_all}
 use Rattle.std.proofs.lemmas.Bool.{and_parts, both_ways, or_cases}
-use Rattle.iso_conduct.proofs.Open.{eq-is, eq-same}
 use Rattle.iso_conduct.specs.Pacing.{Paced, PacedFrom, Paces, is_bare, is_over, lines_after, lines_after_act, lines_behind, lines_from, lines_left}
 use Rattle.iso_history.specs.After.{after, start, world, world_from}
-use Rattle.iso_history.specs.Legal.{Allowed, By, Ground, GroundFrom}
+use Rattle.iso_history.specs.Legal.{By, Ground, GroundFrom}
 use Rattle.iso_history.specs.Paces.{is_stop}
 use Rattle.iso_history.specs.Phases.{phase_of}
-use Rattle.iso_history.specs.World.{World, at_conn}
+use Rattle.iso_history.specs.World.{World}
 use Rattle.iso_history.specs.declared.entry.Act.{Act}
 use Rattle.iso_history.specs.declared.entry.Act.TheVariants.{Busy, Close, Dispatch, Expire, Snapshot, Stopped}
 use Rattle.iso_history.specs.declared.entry.Entry.{Entry}
@@ -16,7 +15,6 @@ use Rattle.iso_history.specs.declared.entry.Who.{Who}
 use Rattle.iso_history.specs.declared.entry.Who.TheVariants.{Agent, Dispatcher}
 use Rattle.iso_script.specs.declared.script.Line.{Line}
 use Rattle.iso_types.specs.Ids.{conn_eq}
-use Rattle.iso_types.specs.declared.desk.Phase.{Phase}
 use Rattle.iso_types.specs.declared.desk.Phase.TheVariants.{Closing}
 use Rattle.iso_types.specs.declared.head.Head.{Head}
 use Rattle.iso_types.specs.declared.value.Conn.{Conn}

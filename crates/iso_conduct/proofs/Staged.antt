@@ -1,5 +1,5 @@
 -- What a stage's list begins with.
-use Rattle.std.proofs.Common.{◌≡◌, Bool, true, ◌&&◌, OnErr, ℕ, ◌+◌, ◌<◌, List, [], ◌∷◌, length, drop, refl, sym, ap, ◌∙◌, subst, Option, Some, None, Result, Ok, Err, drop-cons, add-one, ℤ}
+use Rattle.std.proofs.Common.{◌≡◌, true, ◌&&◌, OnErr, ℕ, ◌+◌, ◌<◌, List, [], ◌∷◌, length, drop, refl, sym, ap, ◌∙◌, subst, Option, Some, None, Result, Ok, Err, drop-cons, add-one, ℤ}
 use Rattle.iso_conduct.specs.Courses.{GivesRow, IsAssigned, IsSoundAt, asks_row, change_by, is_update, change_of, columns_in, found_at, left_at, pair_of, pairs_of, part_of, staged}
 use Rattle.iso_conduct.specs.Parts.{Part}
 use Rattle.iso_conduct.specs.Parts.Part.{Asks}

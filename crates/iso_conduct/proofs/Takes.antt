@@ -3,7 +3,7 @@ use Rattle.std.proofs.Common.{◌≡◌, ℕ, Bool, true, false, ◌||◌, List,
 use Rattle.std.specs.Prelude.{is_some}
 use Rattle.iso_conduct.proofs.Open.{is-idle}
 use Rattle.iso_conduct.specs.Conduct.{statement_in}
-use Rattle.iso_conduct.specs.Pacing.{purge_of, purge_or_line, step_of, taking}
+use Rattle.iso_conduct.specs.Pacing.{IsLine, purge_of, purge_or_line, step_of, taking}
 use Rattle.iso_history.specs.Entries.{least_purgeable}
 use Rattle.iso_history.specs.Legal.{ByDispatcher}
 use Rattle.iso_history.specs.Phases.{is_phase, phase}
@@ -21,11 +21,6 @@ use Rattle.iso_types.specs.declared.value.Conn.{Conn}
 use Rattle.iso_types.specs.declared.value.IndexId.{IndexId}
 use Rattle.iso_types.specs.declared.value.Rid.{Rid}
 use Rattle.iso_types.specs.declared.value.Value.{Value}
-
--- only a statement stands behind `&`, and the line's connection is the head's
-pub record IsLine (head : Head) (l : Line) : Type 0 where
-  pub free : l.free ≡ true → is_some (statement_in l.what) ≡ true
-  pub conn : (c : Conn) → l.conn ≡ Some c → is_conn head c ≡ true
 
 not-free : (b q : Bool) → (b ≡ true → false ≡ true) → (b || q) ≡ true → q ≡ true
 not-free true q no-free h = let f : false ≡ true = no-free refl in absurd (cc)

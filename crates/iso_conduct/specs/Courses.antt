@@ -1,4 +1,4 @@
--- The point that a course stands for.
+-- The point of conduct that the inside of a task stands for, and what holds of that inside.
 use Rattle.std.specs.List.{list_all}
 use Rattle.std.specs.Prelude.{◌≡◌, ℕ, ◌+◌, ◌<◌, Bool, true, false, ◌&&◌, nat_lt, List, [], ◌∷◌, ◌++◌, map, length, drop, Option, Some, None, ℤ, pos, Ok, Err, Result, slice_index_or}
 use Rattle.iso_conduct.specs.Parts as parts

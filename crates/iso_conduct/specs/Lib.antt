@@ -1,3 +1,4 @@
+-- The own entries of each statement, conduct, pacing, schedules, legal and whole histories.
 pub mod Parts
 pub mod Points
 pub mod Courses

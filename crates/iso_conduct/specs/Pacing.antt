@@ -1,6 +1,7 @@
 -- In which order the dispatcher takes the body lines, and when it purges, closes and stops.
 use Rattle.std.specs.Option.{option_map_or}
 use Rattle.std.specs.Prelude.{◌≡◌, Bool, true, false, ◌||◌, List, [], ◌∷◌, IsTrue, Option, Some, None, if◌then◌else◌, is_some, ℕ}
+use Rattle.iso_conduct.specs.Conduct.{statement_in}
 use Rattle.iso_history.specs.After.{after, start}
 use Rattle.iso_history.specs.Entries.{least_purgeable}
 use Rattle.iso_history.specs.Makers.{by_dispatcher}
@@ -19,6 +20,7 @@ use Rattle.iso_history.specs.declared.entry.Who.TheVariants.{Agent, Dispatcher}
 use Rattle.iso_queue.specs.Snapshots.{snapshot}
 use Rattle.iso_script.specs.declared.script.Line.{Line}
 use Rattle.iso_script.specs.declared.script.What.{What}
+use Rattle.iso_types.specs.Head.{is_conn}
 use Rattle.iso_types.specs.declared.desk.Phase.{Phase}
 use Rattle.iso_types.specs.declared.head.Head.{Head}
 use Rattle.iso_types.specs.declared.value.Conn.{Conn}
@@ -36,6 +38,16 @@ step_of head w n what None = None
 -- a line without `&` is taken only in quiet
 abbrev pub line_step : Head → World → Line → Option Act
 line_step head w l = if l.free || is_quiet head w then step_of head w l.number l.what l.conn else None
+
+-- only a statement stands behind `&`, and the line's connection is the head's
+pub record IsLine (head : Head) (l : Line) : Type 0 where
+  pub free : l.free ≡ true → is_some (statement_in l.what) ≡ true
+  pub conn : (c : Conn) → l.conn ≡ Some c → is_conn head c ≡ true
+
+-- the first of some lines is one of the head's
+abbrev pub FirstLine : Head → List Line → Type 0
+FirstLine head [] = Unit {0}
+FirstLine head (l ∷ ls) = IsLine head l
 
 -- the purge of a pair
 abbrev pub purge_of : IndexId × (Value × Rid) → Act

@@ -1,4 +1,4 @@
--- Where a course starts.
+-- Where a statement starts: its level, wants, path, and first stage.
 use Rattle.std.specs.Prelude.{◌≡◌, ℕ, List, [], ◌∷◌, Option, None, Some, pos}
 use Rattle.iso_conduct.specs.Courses.{IsAfterLock}
 use Rattle.iso_conduct.specs.Parts.{Part, change_want, level_in, scan, select_want}

@@ -1,3 +1,5 @@
+//! Copies of statements.
+
 ghost use Rattle.std.specs.Prelude.{◌≡◌, IfOk};
 
 use iso_sql::{Condition, Items2, Sets, Statement};

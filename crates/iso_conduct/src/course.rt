@@ -1,3 +1,5 @@
+//! The inside of a task: a statement, how far it is, and what each answer makes of it.
+
 ghost use Rattle.std.specs.Prelude.{◌≡◌, ◌<◌, ◌^◌, ◌++◌, ◌∷◌, [], drop, ◌≢◌, ◌&&◌, true, false, ◌+◌, Some, length, OnOk, OnErr, IfOk, List, if◌then◌else◌, map, nat_lt};
 ghost use Rattle.std.specs.List.{list_all};
 ghost use Rattle.iso_types.specs.Value.{value_eq};

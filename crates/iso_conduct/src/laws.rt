@@ -1,15 +1,17 @@
+//! Laws of conduct and of legal histories, each as the contract of a function without a body.
+
 ghost use Rattle.std.specs.List.{list_any};
-ghost use Rattle.std.specs.Prelude.{◌≡◌, ◌≤◌, ◌++◌, true, false, length, List, [], ◌∷◌, Option};
+ghost use Rattle.std.specs.Prelude.{◌≡◌, ◌≤◌, ◌++◌, true, false, length, List, [], ◌∷◌, Option, Some};
 ghost use Rattle.iso_conduct.specs.Conduct.{MayIn, is_by, point_after, stops_for_memory};
 ghost use Rattle.iso_conduct.specs.Legal.{AreGuarded, IsFinished, IsLegal};
-ghost use Rattle.iso_conduct.specs.Pacing.{Paced, lines_left};
-ghost use Rattle.iso_conduct.specs.Points.{Point, updated_columns};
-ghost use Rattle.iso_conduct.specs.Schedule.{actors, can_act};
+ghost use Rattle.iso_conduct.specs.Pacing.{FirstLine, Paced, lines_left};
 ghost use Rattle.iso_conduct.specs.Parts.{Part};
+ghost use Rattle.iso_conduct.specs.Points.{Point, updated_columns};
+ghost use Rattle.iso_conduct.specs.Schedule.{actors, can_act, first_step};
 ghost use Rattle.iso_conduct.specs.Whole.{IsWhole};
 ghost use Rattle.iso_conduct.specs.Courses.{fits_table, key_within, keyed_within, reads_within};
 ghost use Rattle.iso_history.specs.After.{world};
-ghost use Rattle.iso_history.specs.Legal.{Ground};
+ghost use Rattle.iso_history.specs.Legal.{ByDispatcher, Ground};
 ghost use Rattle.iso_history.specs.Makers.{by_dispatcher};
 ghost use Rattle.iso_history.specs.Phases.{phase};
 ghost use Rattle.iso_history.specs.Stops.{history_limit};
@@ -77,4 +79,11 @@ pub fn shown_rows_suit()
         → reads_within s (updated_columns head s) row ≡ true }
     ensures key { (head : Head) (t : TableId) (row : List Value) (ps : List Part) → row_fits head t row ≡ true
         → keyed_within (length (columns_of head t)) ps ≡ true → key_within ps row ≡ true }
+{}
+
+/// The dispatcher's first step of Victim, Purge, the next line's entry, Close and Finish is one that may stand on the history,
+/// where the first line left is one of the head's: so a serial run's dispatcher has only to look whether it is full.
+pub fn first_steps_stand()
+    ensures { (head : Head) (w : World) (lines : List Line) (a : Act) → FirstLine head lines → first_step head w lines ≡ Some a
+        → ByDispatcher head w a × (w.pace.finished ≡ false) }
 {}

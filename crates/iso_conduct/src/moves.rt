@@ -1,3 +1,5 @@
+//! The steps that a statement makes, and what they answer.
+
 use iso_history::Want;
 use iso_modes::Mode;
 use iso_types::{IndexId, Isolation, Name, Range, Rid, Row, TableId, Text, Value};

@@ -1,3 +1,5 @@
+//! Where a statement starts: its level, wants, path and first stage.
+
 ghost use Rattle.std.specs.Prelude.{◌≡◌, ◌≤◌, ◌<◌, true, List, [], length, IfOk};
 ghost use Rattle.iso_conduct.specs.Courses.{FitsUpdate, IsSound, IsSoundAt, columns_in, left_at, part_of, point_of};
 ghost use Rattle.iso_conduct.specs.Parts as parts;

@@ -1,3 +1,5 @@
+//! A statement at one point of its conduct.
+
 ghost use Rattle.std.specs.Prelude.{◌≡◌, ◌≤◌, [], true, length, OnOk, OnErr, IfOk};
 ghost use Rattle.iso_conduct.specs.Answers.{answers};
 ghost use Rattle.iso_conduct.specs.Courses.{MayTell, is_write, takes_memory};

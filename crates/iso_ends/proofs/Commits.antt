@@ -1,10 +1,10 @@
 -- The parts after a Commit.
-use Rattle.std.proofs.Common.{◌≡◌, ◌≤◌, ◌<◌, ◌+◌, ◌-◌, ◌⊎◌, inr, ℕ, true, false, List, length, refl, ap, sym, subst, ◌∙◌, arith, None, Option}
-use Rattle.std.specs.Prelude.{IfSome, is_none, is_some, slice_set}
+use Rattle.std.proofs.Common.{◌≡◌, ◌≤◌, ◌<◌, ◌+◌, ◌-◌, inr, ℕ, false, List, length, refl, sym, subst, arith, None, Option}
+use Rattle.std.specs.Prelude.{IfSome, slice_set}
 use Rattle.std.proofs.Math.ListN.{length-set}
 use Rattle.iso_chain.specs.Writes.{committed}
 use Rattle.iso_history.proofs.limits.Others.{at-same}
-use Rattle.iso_history.specs.After.{after, world}
+use Rattle.iso_history.specs.After.{after}
 use Rattle.iso_history.specs.Legal.{Allowed, Runs}
 use Rattle.iso_history.specs.Makers.{by_agent}
 use Rattle.iso_history.specs.Records.{left, left_of}
@@ -21,10 +21,10 @@ use Rattle.iso_state.proofs.ByKind.{reserved-covers}
 use Rattle.iso_state.proofs.Commits.{committed-stands}
 use Rattle.iso_state.proofs.Desks.{claims-own}
 use Rattle.iso_state.proofs.Shuts.{shut-at}
-use Rattle.iso_state.proofs.Steps.{IsRoomFor, conn-is, is-open, own-desk, own-place}
+use Rattle.iso_state.proofs.Steps.{conn-is, is-open, own-desk, own-place}
 use Rattle.iso_state.specs.Changes.{stepped}
 use Rattle.iso_locklist.specs.Holding.{LocksAre}
-use Rattle.iso_state.specs.Stands.{HasPlace, IsDeskOf, Stands, StandsFor, content_of, desk_at, world_of}
+use Rattle.iso_state.specs.Stands.{IsDeskOf, StandsFor, content_of, desk_at, world_of}
 use Rattle.iso_state.specs.Steps.{Spends}
 use Rattle.iso_state.specs.declared.parts.Parts.{Parts}
 

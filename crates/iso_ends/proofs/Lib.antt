@@ -1,1 +1,7 @@
 pub mod Commits
+pub mod Places
+pub mod Replies
+pub mod Undoes
+pub mod Marking
+pub mod Closings
+pub mod Halts

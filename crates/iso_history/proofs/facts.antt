@@ -20,3 +20,7 @@ pub mod Excludes
 pub mod OfHead
 pub mod Keeping
 pub mod Uncovered
+pub mod Taken
+pub mod Takes
+pub mod TakesWrites
+pub mod Shares

@@ -4,3 +4,5 @@ pub mod Journal
 pub mod Guarded
 pub mod Looking
 pub mod Locks
+pub mod Pressed
+pub mod PressedWrites

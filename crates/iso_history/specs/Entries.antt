@@ -1,4 +1,4 @@
--- Entries of indexes, and guards.
+-- The pairs (key, rid) of each index, the guard of a key, and which pair may be purged.
 use Rattle.std.specs.List.{list_any}
 use Rattle.std.specs.Option.{option_map_or}
 use Rattle.std.specs.Prelude.{ℕ, ◌+◌, Bool, true, false, not, ◌&&◌, ◌||◌, List, [], ◌∷◌, map, if◌then◌else◌, slice_index_or, slice_set, Some, None, filter, find, Option}

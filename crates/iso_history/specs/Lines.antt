@@ -1,4 +1,4 @@
--- Open statements.
+-- The line of each connection's open statement, and where the log stood at its start.
 use Rattle.std.specs.Prelude.{ℕ, Some, None, Option}
 use Rattle.iso_history.specs.World.{at_conn}
 use Rattle.iso_history.specs.declared.entry.Act.{Act}

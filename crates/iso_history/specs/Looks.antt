@@ -1,4 +1,4 @@
--- Looks.
+-- The lock that a look asks, its outcome, whether it may stand, and what it shows.
 use Rattle.std.specs.Option.{option_map, option_map_or}
 use Rattle.std.specs.Prelude.{Bool, true, not, ◌&&◌, ◌||◌, List, if◌then◌else◌, is_some, nat_lt, Some, None, Option}
 use Rattle.iso_history.specs.Holds.{placed_by_want}

@@ -1,4 +1,4 @@
--- Entries by their maker.
+-- An entry of an agent, and one of the dispatcher.
 use Rattle.iso_history.specs.declared.entry.Act.{Act}
 use Rattle.iso_history.specs.declared.entry.Entry.{Entry}
 use Rattle.iso_history.specs.declared.entry.Who.TheVariants.{Agent, Dispatcher}

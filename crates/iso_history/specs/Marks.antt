@@ -1,4 +1,4 @@
--- Savepoints, newest first.
+-- The savepoints of each connection's unit, newest first.
 use Rattle.std.specs.Option.{option_map}
 use Rattle.std.specs.Prelude.{ℕ, not, List, [], ◌∷◌, if◌then◌else◌, filter, find, Option}
 use Rattle.iso_history.specs.Records.{count}

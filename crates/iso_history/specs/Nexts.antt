@@ -1,4 +1,4 @@
--- Next.
+-- The outcome of a step of an index scan, and whether it may stand.
 use Rattle.std.specs.Prelude.{Bool, true, false, not, ◌&&◌, ◌||◌, Some, None, Option}
 use Rattle.iso_history.specs.Entries.{found, stand_of}
 use Rattle.iso_history.specs.Holds.{next_name}

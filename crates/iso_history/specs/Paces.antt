@@ -1,4 +1,4 @@
--- The dispatcher's own state.
+-- The dispatcher's own state: its last Purge, the stops, and Finish.
 use Rattle.std.specs.Prelude.{Bool, true, false, ◌||◌}
 use Rattle.iso_history.specs.World.{Pace}
 use Rattle.iso_history.specs.declared.entry.Act.{Act}

@@ -1,4 +1,4 @@
--- Phases.
+-- The phase of each connection: running, waiting, rolling back, closing, ended, or idle.
 use Rattle.std.specs.List.{list_all}
 use Rattle.std.specs.Option.{option_map_or}
 use Rattle.std.specs.Prelude.{ℕ, Bool, true, false, ◌&&◌, ◌||◌, List, is_some, is_none, nat_le, ◌==◌, Some, None, find, Option}

@@ -1,4 +1,4 @@
--- Pacing.
+-- When all connections rest, which wait on a cycle, and when a line may be taken.
 use Rattle.std.specs.List.{list_all}
 use Rattle.std.specs.Prelude.{Bool, not, ◌&&◌, ◌||◌, List, is_none, find, Option}
 use Rattle.iso_history.specs.Entries.{least_purgeable}

@@ -1,4 +1,4 @@
--- The log.
+-- The records of the log, what of them is not undone, and the log's limit.
 use Rattle.std.specs.List.{position_or_len}
 use Rattle.std.specs.Option.{option_map_or}
 use Rattle.std.specs.Prelude.{ℕ, ◌+◌, ◌-◌, Bool, not, List, [], ◌∷◌, ◌++◌, length, if◌then◌else◌, nat_lt, nat_le, ◌==◌, slice_get, slice_index_or, Some, None, sum_by, filter, Option}

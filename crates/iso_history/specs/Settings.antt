@@ -1,4 +1,4 @@
--- Settings.
+-- The isolation level of each connection, and whether it may wait.
 use Rattle.std.specs.Option.{option_map_or}
 use Rattle.std.specs.Prelude.{true, slice_get}
 use Rattle.iso_history.specs.World.{Setting, at_conn}

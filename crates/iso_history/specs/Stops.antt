@@ -1,4 +1,4 @@
--- Reserves, full steps and stops.
+-- The reserves that the history's limit keeps, the steps that are full, and the stops.
 use Rattle.std.specs.List.{list_any}
 use Rattle.std.specs.Prelude.{ℕ, ◌+◌, Bool, true, false, not, ◌&&◌, ◌||◌, length, is_some, if◌then◌else◌, nat_lt, nat_le, sum_by}
 use Rattle.iso_history.specs.After.{after}

@@ -1,4 +1,4 @@
--- Units.
+-- The open unit of work of each connection, and how many units have begun.
 use Rattle.std.specs.List.{list_any}
 use Rattle.std.specs.Option.{option_map_or}
 use Rattle.std.specs.Prelude.{ℕ, ◌+◌, Bool, false, is_some, if◌then◌else◌, ◌==◌, Some, None, Option, unwrap_or}

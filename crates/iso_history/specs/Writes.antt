@@ -1,4 +1,4 @@
--- Writes.
+-- What comes of an Insert, Update or Delete: it is done, blocked, refused, or at a limit.
 use Rattle.std.specs.List.{list_any}
 use Rattle.std.specs.Ordering.{int_eq}
 use Rattle.std.specs.Prelude.{ℕ, ◌+◌, Bool, false, not, ◌&&◌, ◌||◌, List, [], ◌∷◌, ℤ, pos, is_some, is_none, if◌then◌else◌, nat_le, None, count_by, filter, neg_ℤ, Option}

@@ -1,3 +1,5 @@
+//! What a value with a history shows of it.
+
 ghost use Rattle.std.specs.Prelude.{◌≡◌, length};
 
 /// A value that has a head and a history, as a list of entries; this project's own.

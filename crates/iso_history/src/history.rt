@@ -1,3 +1,5 @@
+//! The history as a list of entries that only grows.
+
 ghost use Rattle.std.specs.Prelude.{◌≡◌, ◌+◌, ◌<◌, ◌≤◌, ◌↔◌, [], ◌∷◌, ◌++◌, length, slice_get, OnOk, OnErr, IsSome};
 ghost use Rattle.std.specs.Option.{option_copied};
 

@@ -1,3 +1,5 @@
+//! Laws of every legal history, each as the contract of a function without a body.
+
 ghost use Rattle.std.specs.Prelude.{◌≡◌, ◌+◌, ◌≤◌, ◌<◌, ℕ, List, [], Some, true, false, length, take};
 ghost use Rattle.std.specs.List.{list_all};
 ghost use Rattle.iso_history.specs.After.{world};
@@ -9,6 +11,7 @@ ghost use Rattle.iso_history.specs.Records.{count, debt, last_left, note_of, old
 ghost use Rattle.iso_history.specs.Requests.Outcome.{Gives};
 ghost use Rattle.iso_history.specs.Scans.{AreChained, are_plain};
 ghost use Rattle.iso_history.specs.Settled.{settled_row};
+ghost use Rattle.iso_history.specs.Shares.{SharesHold};
 ghost use Rattle.iso_history.specs.Stops.{history_limit, needs};
 ghost use Rattle.iso_history.specs.Versions.{committed, head_record, is_changed_beside, versions};
 ghost use Rattle.iso_history.specs.declared.entry.Entry.{Entry};
@@ -43,12 +46,14 @@ pub fn worlds_are_sound()
         → Ground head es → LogSound head (world head es) }
 {}
 
-/// Every legal history of at most 32 connections stays within the history's limit and the log's, with all that is still to come.
+/// Every legal history of at most 32 connections stays within the history's limit and the log's, with all that is still to come;
+/// and every legal history within the lock limits: each connection within its share, all together within the slots.
 pub fn limits_hold()
     ensures entries { (head : Head) (es : List Entry) → length head.conns ≤ 32 → Ground head es
         → (world head es).made + needs head (world head es) ≤ history_limit }
     ensures records { (head : Head) (es : List Entry) → length head.conns ≤ 32 → Ground head es
         → count (world head es) + debt head (world head es) ≤ oldest head (world head es) + head.config.logmax }
+    ensures locks { (head : Head) (es : List Entry) → Ground head es → SharesHold head (world head es) }
 {}
 
 /// The greatest change that an open unit has left is the last version of its slot.

@@ -256,7 +256,7 @@ module _ (ps : List Place) (unlike : are_apart (names ps) ≡ true) (hs : List H
   one_waits : (c : Conn) → WaitsOnce xs c → count_by (own c) (waits_in ps) ≤ 1
   one_waits c once = omega (arith, waits_count c, once)
 
-  single_here : (c : Conn) → IsSingleIn hs xs c → IsSingleIn (holds_in ps) (waits_in ps) c
+  pub single_here : (c : Conn) → IsSingleIn hs xs c → IsSingleIn (holds_in ps) (waits_in ps) c
   single_here c single = record {
     holds = λ n. omega (arith, alike_count (λ h. h.name) (is_hold_of c n) (holds_in ps) hs holds_like, single.holds n);
     waits = one_waits c single.waits;

@@ -26,3 +26,4 @@ pub mod SingleLists
 pub mod AlikeClaims
 pub mod Holding
 pub mod NewNames
+pub mod Weighed

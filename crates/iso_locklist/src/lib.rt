@@ -8,6 +8,7 @@ mod room;
 mod snapshot;
 #[cfg(test)]
 mod tests;
+mod weights;
 
 pub use list::LockList;
 pub use places::{Asking, Place};

@@ -2,6 +2,7 @@ ghost use Rattle.std.specs.Prelude.{drop, List, ◌≡◌, ◌<◌, ◌≤◌, [
 ghost use Rattle.iso_locklist.specs.Holding.{AreAsked, AreNew, AreOfHead, IsNew, all_added, HasTables, LocksAre, WaitsOnce, room_asked, room_in_lists, settled_beside};
 ghost use Rattle.iso_locklist.specs.Lists.{asked_for, IsSingleIn, claimed_holds, claimed_waits, grants_in, named_hold};
 ghost use Rattle.iso_locklist.specs.Places.{IsLimited, IsSameLimits, all_taken, cancelled, each_line, edges_in, is_covered, is_grantable_in, is_spared, line_at, released, room_for, room_to_ask, taken, wait_in, changed, changed_in};
+ghost use Rattle.iso_locklist.specs.Weights.{weight_in};
 ghost use Rattle.iso_locklist.specs.declared.places.Place.{Place as Entry};
 ghost use Rattle.iso_queue.specs.Lines.{asked, bits_of, claimed, hold_of, is_granted, is_guarded_against, is_used, settled};
 ghost use Rattle.iso_queue.specs.Locks.{Hold as Held, added, collapsed, dropped, freed, hold_on, others_guard, without_briefs};
@@ -27,6 +28,7 @@ use crate::places::{
 };
 use crate::room::{LockFault, Room, room_beside, room_in};
 use crate::snapshot::{in_order, list_lines};
+use crate::weights::weight;
 use iso_modes::{Mode, Term, covers};
 use iso_queue::{Asked, Claimed, Hold, LockLine};
 use iso_types::{Conn, Edges, Head, Items, Memory, Name, TableId};
@@ -103,6 +105,16 @@ impl LockList {
     {
         let _ = &self.places;
         self.room_at(conn, more)
+    }
+
+    /// How many holds the connection has on the rows and keys of the table that are not Brief. Its cost is the number of
+    /// names, and of all who hold them. Db2 LUW, 'Lock escalation'; that Brief holds do not count is this project's own.
+    pub fn weight(&self, conn: Conn, table: TableId) -> u32
+        requires { conn.0 < 32 }
+        ensures { (head : Declared) (hs : List Held) (xs : List Awaiting) → HasTables head self.now → LocksAre hs xs self.now → IsSingleIn hs xs conn → result ≡ limits.weight head hs conn table }
+    {
+        let _ = &self.places;
+        self.weight_at(conn, table)
     }
 
     /// The connection's hold on the name. Its cost is the number of names, and of those who hold the name.
@@ -449,6 +461,16 @@ impl LockList {
         ensures { result ≡ taken self.now.places conn }
     {
         self.counts[conn.0 as usize]
+    }
+
+    /// How many lines of the table's rows and keys have a hold of the connection that is not Brief.
+    fn weight_at(&self, conn: Conn, table: TableId) -> u32
+        requires { conn.0 < 32 }
+        ensures { result ≡ weight_in self.now conn table }
+    {
+        let weight = weight(&self.places, self.index_tables.as_slice(), conn, table);
+        prove!(weight <= self.counts[conn.0 as usize] as usize);
+        weight as u32
     }
 
     /// The sum of the counts.

@@ -1,1 +1,3 @@
 pub mod LockSteps
+pub mod ClaimSteps
+pub mod FreeSteps

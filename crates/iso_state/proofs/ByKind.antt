@@ -11,6 +11,7 @@ use Rattle.iso_history.specs.After.{after, world}
 use Rattle.iso_history.specs.Lasts.{last_of, last_of_lock}
 use Rattle.iso_history.specs.Legal.{Allowed, By, ByAgent}
 use Rattle.iso_history.specs.Makers.{by_agent, by_dispatcher}
+use Rattle.iso_history.specs.Paces.{is_stop}
 use Rattle.iso_history.specs.Phases.{phase, phase_of}
 use Rattle.iso_history.specs.Reserves.{log_room_of, records_of, reserves_less, reserves_more}
 use Rattle.iso_history.specs.Stops.{history_limit, is_full, is_never_refused, reserves}
@@ -41,7 +42,7 @@ use Rattle.iso_types.specs.declared.value.Name.TheVariants.{End, Key, Row, Table
 use Rattle.iso_modes.specs.declared.Mode.{Mode}
 use Rattle.iso_state.proofs.Desks.{IsSameSeat, claims-own, seat-as, seat-kept}
 use Rattle.iso_state.proofs.FactsAlong.{apart-of, none_left-of, within-of}
-use Rattle.iso_state.proofs.Steps.{IsOwn, IsRoomFor, conn-is, is-open, own-desk, own-place}
+use Rattle.iso_state.proofs.Steps.{IsOwn, IsRoomFor, calm-place, conn-is, is-open, own-desk}
 use Rattle.iso_state.proofs.Waits.{queues-by, rolls-by, waits-own}
 use Rattle.iso_state.specs.Changes.{entered, relocked, seated, unclaimed}
 use Rattle.iso_state.specs.Kinds.{is_bare, queues, times_out}
@@ -89,6 +90,7 @@ pub record Leaves (head : Head) (w : World) (c : Conn) (a : Act) : Type 0 where
   pub refused : is_never_refused a ≡ false
   pub unlogged : log_room_of a ≡ 0
   pub unclaimed_is : is_claimed (last_of a) ≡ false
+  pub calm : is_stop a ≡ false
 
 -- a bare entry besides leaves waits, dooms and reserves
 pub record IsBare (head : Head) (w : World) (c : Conn) (a : Act) : Type 0 where
@@ -131,6 +133,7 @@ bare-is head w c (Lock n m t why Got.Granted) e = record {
     refused = refl;
     unlogged = refl;
     unclaimed_is = locks-none why Got.Granted n m;
+    calm = refl;
   };
   waits = refl;
   doom = refl;
@@ -154,6 +157,7 @@ bare-is head w c (Look t r want Got.Granted) e = record {
     refused = refl;
     unlogged = refl;
     unclaimed_is = refl;
+    calm = refl;
   };
   waits = refl;
   doom = refl;
@@ -177,6 +181,7 @@ bare-is head w c (ScanEnd t n) e = record {
     refused = refl;
     unlogged = refl;
     unclaimed_is = refl;
+    calm = refl;
   };
   waits = refl;
   doom = refl;
@@ -200,6 +205,7 @@ bare-is head w c (Next i range at guarded (Stand.At v r)) e = record {
     refused = refl;
     unlogged = refl;
     unclaimed_is = refl;
+    calm = refl;
   };
   waits = refl;
   doom = refl;
@@ -223,6 +229,7 @@ bare-is head w c (Next i range at guarded Stand.Past) e = record {
     refused = refl;
     unlogged = refl;
     unclaimed_is = refl;
+    calm = refl;
   };
   waits = refl;
   doom = refl;
@@ -246,6 +253,7 @@ bare-is head w c (Free t r) e = record {
     refused = refl;
     unlogged = refl;
     unclaimed_is = refl;
+    calm = refl;
   };
   waits = refl;
   doom = refl;
@@ -269,6 +277,7 @@ bare-is head w c (Collapse t m) e = record {
     refused = refl;
     unlogged = refl;
     unclaimed_is = refl;
+    calm = refl;
   };
   waits = refl;
   doom = refl;
@@ -292,6 +301,7 @@ bare-is head w c (Refused code) e = record {
     refused = refl;
     unlogged = refl;
     unclaimed_is = refl;
+    calm = refl;
   };
   waits = refl;
   doom = refl;
@@ -337,7 +347,7 @@ bare-from p q l c a s ready spends free lt by kind are same wrote =
     let k = b.leaves in
     let none = k.more in
     let less = b.less in
-    rw wrote (own-place (content_of p) c a (content_of p).chain l (unclaimed (desk_at p.desks c)) p.reserved p.history.spare q.history.spare p.log.spare q.log.spare s
+    rw wrote (calm-place (content_of p) c a (content_of p).chain l (unclaimed (desk_at p.desks c)) p.reserved p.history.spare q.history.spare p.log.spare q.log.spare s
     (ready-allowed (content_of p) (Agent c) a 1 s.stands free (conn-is p.head c lt, by) k.refused (omega (arith, none, less)) ready.fits)
     (room-for p q a ready.spare spends k.unlogged)
     (record {
@@ -350,7 +360,7 @@ bare-from p q l c a s ready spends free lt by kind are same wrote =
           (sym k.unclaimed_is ∙ claims-own (world_of p) c a)
           (own-desk (content_of p) c (desk_at p.desks c) s.stands lt refl);
       reserved = omega (arith, none, less);
-    }))
+    }) k.calm)
 
 -- an entry that queues adds one wait
 pub record IsQueued (head : Head) (w : World) (c : Conn) (a : Act) : Type 0 where
@@ -380,6 +390,7 @@ queued-is head w c (Lock n m t why (Got.Queued to)) e = record {
     refused = refl;
     unlogged = refl;
     unclaimed_is = locks-none why (Got.Queued to) n m;
+    calm = refl;
   };
   wait = record { name = n; conn = c; target = to; term = t };
   own = refl;
@@ -405,6 +416,7 @@ queued-is head w c (Look t r want (Got.Queued to)) e = record {
     refused = refl;
     unlogged = refl;
     unclaimed_is = refl;
+    calm = refl;
   };
   wait = record { name = Row t r; conn = c; target = to; term = wait_term want };
   own = refl;
@@ -430,6 +442,7 @@ queued-is head w c (Next i range at guarded (Stand.Queued n)) e = record {
     refused = refl;
     unlogged = refl;
     unclaimed_is = refl;
+    calm = refl;
   };
   wait = record { name = n; conn = c; target = target w.holds c n S; term = Kept };
   own = refl;
@@ -465,6 +478,7 @@ timed_out-is head w c (Lock n m t why Got.TimedOut) e = record {
     refused = refl;
     unlogged = refl;
     unclaimed_is = locks-none why Got.TimedOut n m;
+    calm = refl;
   };
   waits = refl;
   doom = refl;
@@ -488,6 +502,7 @@ timed_out-is head w c (Look t r want Got.TimedOut) e = record {
     refused = refl;
     unlogged = refl;
     unclaimed_is = refl;
+    calm = refl;
   };
   waits = refl;
   doom = refl;
@@ -511,6 +526,7 @@ timed_out-is head w c (Next i range at guarded (Stand.TimedOut n)) e = record {
     refused = refl;
     unlogged = refl;
     unclaimed_is = refl;
+    calm = refl;
   };
   waits = refl;
   doom = refl;
@@ -559,7 +575,7 @@ queued-from p q l c a s ready spends free lt runs by kind are same wrote =
     let k = b.leaves in
     let none = k.more in
     let less = b.less in
-    rw wrote (own-place (content_of p) c a (content_of p).chain l (record (desk_at p.desks c) { phase = Phase.Waiting; claimed = false }) p.reserved p.history.spare
+    rw wrote (calm-place (content_of p) c a (content_of p).chain l (record (desk_at p.desks c) { phase = Phase.Waiting; claimed = false }) p.reserved p.history.spare
     q.history.spare p.log.spare q.log.spare s
     (ready-allowed (content_of p) (Agent c) a 1 s.stands free (conn-is p.head c lt, by) k.refused (omega (arith, none, less)) ready.fits)
     (room-for p q a ready.spare spends k.unlogged)
@@ -571,7 +587,7 @@ queued-from p q l c a s ready spends free lt runs by kind are same wrote =
       limits = same;
       desk = queued-desk p.head (world_of p) c a (desk_at p.desks c) b runs (own-desk (content_of p) c (desk_at p.desks c) s.stands lt refl);
       reserved = omega (arith, none, less);
-    }))
+    }) k.calm)
 
 -- an entry that may stand takes off the sum no more than it has
 pub reserved-covers : (p : Content) (e : Entry) → Stands p → Allowed p.head (world p.head p.history) e
@@ -611,7 +627,7 @@ timed_out-from p q l c a s ready spends free lt runs by kind are same wrote =
     let none = k.more in
     let less = b.less in
     let some = covers-from p c a s free lt by kind in
-    rw wrote (own-place (content_of p) c a (content_of p).chain l (record (desk_at p.desks c) { phase = Rolling; doom = 68; claimed = false }) (p.reserved - 1)
+    rw wrote (calm-place (content_of p) c a (content_of p).chain l (record (desk_at p.desks c) { phase = Rolling; doom = 68; claimed = false }) (p.reserved - 1)
     p.history.spare q.history.spare p.log.spare q.log.spare s
     (ready-allowed (content_of p) (Agent c) a 0 s.stands free (conn-is p.head c lt, by) k.refused (omega (arith, none, less)) ready.fits)
     (room-for p q a ready.spare spends k.unlogged)
@@ -623,7 +639,7 @@ timed_out-from p q l c a s ready spends free lt runs by kind are same wrote =
       limits = same;
       desk = timed_out-desk p.head (world_of p) c a (desk_at p.desks c) b runs (own-desk (content_of p) c (desk_at p.desks c) s.stands lt refl);
       reserved = omega (arith, none, less, some);
-    }))
+    }) k.calm)
 
 -- parts that are as before, with no less room, stand as before
 pub same-place : (p q : Parts) → StandsFor p → content_of q ≡ content_of p → KeepsRoom p q → StandsFor q

@@ -34,7 +34,7 @@ use Rattle.iso_history.specs.Reserves.{HasRoom}
 use Rattle.iso_history.specs.declared.entry.Entry.{Entry}
 use Rattle.iso_locklist.specs.Places.{Ledger}
 use Rattle.iso_locklist.specs.declared.places.Place.{Place}
-use Rattle.iso_state.specs.Firsts.{first_content, first_desk, first_locks}
+use Rattle.iso_state.specs.Firsts.{calm, first_content, first_desk, first_locks}
 use Rattle.iso_state.specs.Stands.{AreOf, HasPlace, HeadFits, Stands, no_desk}
 
 -- the table with this number
@@ -83,6 +83,7 @@ first-parts head = record {
   locks = record { holds = λ n. refl; waits = λ n. refl };
   desks = λ c lt. let r = first-desk head.conns c.0 in
       record { phase = r.phase; line = tt; isolation = r.level; may_wait = r.may_wait; doom = r.doom; start = r.start; claimed = r.claimed };
+  pace = refl;
   reserved = sym (reserves-start head);
 }
 
@@ -126,6 +127,7 @@ pub first-is : (head copy : Head) (tables : List (Filled Slot)) (log : Journal) 
       entries = map entries indexes;
       locks = locks;
       desks = desks;
+      pace = calm;
       history = past;
       reserved = reserved;
     } ≡ first_content head
@@ -145,6 +147,7 @@ first-is head copy tables log units indexes locks desks past reserved same slots
           entries = map entries indexes;
           locks = locks;
           desks = desks;
+          pace = calm;
           history = past;
           reserved = reserved;
         }

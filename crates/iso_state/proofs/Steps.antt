@@ -1,5 +1,5 @@
 -- The parts after an entry: what a step has to show of its own, and the lemmas that do the rest.
-use Rattle.std.proofs.Common.{◌≡◌, ◌≤◌, ◌<◌, ◌+◌, ◌⊎◌, inl, inr, ◌∷◌, ◌++◌, [], ℕ, Bool, true, false, not, List, length, refl, ap, sym, ◌∙◌, arith, subst}
+use Rattle.std.proofs.Common.{◌≡◌, ◌≤◌, ◌<◌, ◌+◌, ◌⊎◌, inl, inr, ◌∷◌, ◌++◌, [], ℕ, Bool, true, false, not, ◌||◌, List, length, refl, ap, sym, ◌∙◌, arith, subst}
 use Rattle.std.specs.Prelude.{slice_set}
 use Rattle.std.proofs.Math.ListN.{length-set}
 use Rattle.std.proofs.lemmas.Bool.Decides.{nat_tests}
@@ -15,7 +15,8 @@ use Rattle.iso_history.specs.Makers.{by_agent, by_dispatcher}
 use Rattle.iso_history.specs.Records.{debt}
 use Rattle.iso_history.specs.Reserves.{HasRoom, debt_less, debt_more, log_room_of, records_of, reserves_less, reserves_more, room_of}
 use Rattle.iso_history.specs.Stops.{is_never_refused, needs, reserves}
-use Rattle.iso_history.specs.World.{World}
+use Rattle.iso_history.specs.Paces.{is_stop, pace_by}
+use Rattle.iso_history.specs.World.{Pace, World}
 use Rattle.iso_history.specs.declared.entry.Act.{Act}
 use Rattle.iso_history.specs.declared.entry.Entry.{Entry}
 use Rattle.iso_history.specs.declared.entry.Who.TheVariants.{Agent, Dispatcher}
@@ -27,7 +28,7 @@ use Rattle.iso_types.specs.declared.head.Head.{Head}
 use Rattle.iso_types.specs.declared.value.Conn.{Conn}
 use Rattle.iso_state.proofs.Desks.{desks-set, others-kept}
 use Rattle.iso_state.proofs.FactsAlong.{apart-of, none_left-of, within-of}
-use Rattle.iso_state.specs.Changes.{stepped}
+use Rattle.iso_state.specs.Changes.{repaced, stepped}
 use Rattle.iso_state.specs.Stands.{AreOf, Content, DesksStand, HasPlace, IsDeskOf, IsLimitedBy, Stands, desk_at}
 use Rattle.iso_locklist.specs.Holding.{LocksAre}
 
@@ -71,9 +72,10 @@ pub record IsStep (p : Content) (e : Entry) (k : Chained) (l : Ledger) (ds : Lis
 same-sum : (n r a b less more : ℕ) → n + less ≡ r + more → b + less ≡ a + more → r ≡ a → n ≡ b
 same-sum n r a b less more e f g = omega (arith, e, f, g)
 
--- then the content stands for the history with the entry
+-- then the content stands for the history with the entry; at an entry that is literal and no Stopped of an agent, the state of the
+-- dispatcher is as it was by computation
 pub step-stands : (p : Content) (e : Entry) (k : Chained) (l : Ledger) (desks : List Desk) (n : ℕ) → Stands p
-    → Allowed p.head (world p.head p.history) e → IsStep p e k l desks n → Stands (stepped p k l desks n e)
+    → Allowed p.head (world p.head p.history) e → IsStep p e k l desks n → Stands (repaced (stepped p k l desks n e) (pace_by p.pace e.who e.act))
 step-stands p e k l desks n s al i =
     let w = world p.head p.history in
     let sums = (totals-after p.head w e al (apart-of s) (within-of s).course (none_left-of s)).reserves_move in
@@ -81,6 +83,7 @@ step-stands p e k l desks n s al i =
       parts = rw (world-snoc p.head p.history e) (record {
         chain = i.chain;
         entries = s.parts.entries ∙ sym i.entries;
+        pace = ap (λ (q : Pace). pace_by q e.who e.act) s.parts.pace;
         locks = i.locks;
         desks = i.desks;
         reserved = same-sum n p.reserved (reserves p.head w) _ _ _ i.reserved sums s.parts.reserved;
@@ -126,7 +129,7 @@ step-room p e old new log_old log_new s al r =
 -- the parts stand for the history with the entry
 pub step-place : (p : Content) (e : Entry) (k : Chained) (l : Ledger) (desks : List Desk) (n old new log_old log_new : ℕ) → HasPlace p old log_old
     → Allowed p.head (world p.head p.history) e → IsRoomFor p e.act old new log_old log_new → IsStep p e k l desks n
-    → HasPlace (stepped p k l desks n e) new log_new
+    → HasPlace (repaced (stepped p k l desks n e) (pace_by p.pace e.who e.act)) new log_new
 step-place p e k l desks n old new log_old log_new s al r i =
     record { stands = step-stands p e k l desks n s.stands al i; room = step-room p e old new log_old log_new s al r }
 
@@ -158,6 +161,18 @@ own-step p c a k l desk n s i =
 -- the parts after an agent's entry
 pub own-place : (p : Content) (c : Conn) (a : Act) (k : Chained) (l : Ledger) (desk : Desk) (n old new log_old log_new : ℕ) → HasPlace p old log_old
     → Allowed p.head (world p.head p.history) (by_agent c a) → IsRoomFor p a old new log_old log_new → IsOwn p c a k l desk n
-    → HasPlace (stepped p k l (slice_set p.desks c.0 desk) n (by_agent c a)) new log_new
+    → HasPlace (repaced (stepped p k l (slice_set p.desks c.0 desk) n (by_agent c a)) (pace_by p.pace (Agent c) a)) new log_new
 own-place p c a k l desk n old new log_old log_new s al r i =
     step-place p (by_agent c a) k l (slice_set p.desks c.0 desk) n old new log_old log_new s al r (own-step p c a k l desk n s.stands i)
+
+-- an entry of an agent that is no Stopped leaves the dispatcher's state
+calm-pace : (q : Pace) (c : Conn) (a : Act) → is_stop a ≡ false → pace_by q (Agent c) a ≡ q
+calm-pace q c a e = ap (λ (b : Bool). record q { stopped = b || q.stopped }) e
+
+-- so the parts after such an entry, where it is not literal, have it as it was
+pub calm-place : (p : Content) (c : Conn) (a : Act) (k : Chained) (l : Ledger) (desk : Desk) (n old new log_old log_new : ℕ) → HasPlace p old log_old
+    → Allowed p.head (world p.head p.history) (by_agent c a) → IsRoomFor p a old new log_old log_new → IsOwn p c a k l desk n → is_stop a ≡ false
+    → HasPlace (stepped p k l (slice_set p.desks c.0 desk) n (by_agent c a)) new log_new
+calm-place p c a k l desk n old new log_old log_new s al r i calm =
+    subst (λ (q : Pace). HasPlace (repaced (stepped p k l (slice_set p.desks c.0 desk) n (by_agent c a)) q) new log_new)
+    (calm-pace p.pace c a calm) (own-place p c a k l desk n old new log_old log_new s al r i)

@@ -4,6 +4,7 @@ use Rattle.iso_types.specs.declared.desk.Desk.{Desk}
 use Rattle.iso_types.specs.declared.value.Conn.{Conn}
 use Rattle.iso_chain.specs.Stands.{Chained}
 use Rattle.iso_history.specs.declared.entry.Entry.{Entry}
+use Rattle.iso_history.specs.World.{Pace}
 use Rattle.iso_locklist.specs.Places.{Ledger}
 use Rattle.iso_state.specs.Stands.{Content, desk_at}
 
@@ -18,6 +19,10 @@ rechained p k = record p { chain = k }
 -- with these slots, log and units, this lock list, these desks, this sum of reserves, and one more entry
 abbrev pub stepped : Content → Chained → Ledger → List Desk → ℕ → Entry → Content
 stepped p k l desks n e = record p { chain = k; locks = l; desks = desks; reserved = n; history = p.history ++ e ∷ [] }
+
+-- with another state of the dispatcher
+abbrev pub repaced : Content → Pace → Content
+repaced p q = record p { pace = q }
 
 -- one more entry, which no desk tells of
 abbrev pub noted : Content → Entry → Content

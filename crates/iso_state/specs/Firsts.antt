@@ -7,6 +7,7 @@ use Rattle.iso_types.specs.declared.head.ConnDef.{ConnDef}
 use Rattle.iso_types.specs.declared.head.Head.{Head}
 use Rattle.iso_chain.specs.Firsts.{first_chained}
 use Rattle.iso_history.specs.Entries.{first_entries}
+use Rattle.iso_history.specs.World.{Pace}
 use Rattle.iso_locklist.specs.Places.{Ledger}
 use Rattle.iso_state.specs.Stands.{Content}
 
@@ -19,6 +20,10 @@ abbrev pub first_locks : Head → Ledger
 first_locks head =
     record { places = []; share = lock_share head.config; slots = lock_slots head.config; index_tables = map (λ d. d.table) head.indexes }
 
+-- the dispatcher has done nothing
+abbrev pub calm : Pace
+calm = record { purged = false; stopped = false; halted = false; finished = false }
+
 -- a slot for each row that the head gives a table, no record, no lock, each connection at its first desk, and no entry
 abbrev pub first_content : Head → Content
 first_content head = record {
@@ -28,6 +33,7 @@ first_content head = record {
   entries = first_entries head;
   locks = first_locks head;
   desks = map first_desk head.conns;
+  pace = calm;
   history = [];
   reserved = length head.conns * 2 + 2;
 }

@@ -20,8 +20,9 @@ use Rattle.iso_history.specs.Legal.{Ground}
 use Rattle.iso_history.specs.Phases.{phase}
 use Rattle.iso_history.specs.Reserves.{HasRoom}
 use Rattle.iso_history.specs.Stops.{reserves}
-use Rattle.iso_history.specs.World.{Last, World}
+use Rattle.iso_history.specs.World.{Last, Pace, World}
 use Rattle.iso_history.specs.World.Last.{Claimed}
+use Rattle.iso_state.specs.declared.pace.Pace.{Pace as Paced}
 use Rattle.iso_state.specs.declared.parts.Parts.{Parts}
 
 -- what the log may have: its window and its limit
@@ -37,8 +38,13 @@ pub record Content : Type 0 where
   pub entries : List (List (Value × Rid))
   pub locks : Ledger
   pub desks : List Desk
+  pub pace : Pace
   pub history : List Entry
   pub reserved : ℕ
+
+-- the dispatcher's state
+abbrev pub pace_of : Paced → Pace
+pace_of q = record { purged = q.purged; stopped = q.stopped; halted = q.halted; finished = q.finished }
 
 -- what the parts hold
 abbrev pub content_of : Parts → Content
@@ -49,6 +55,7 @@ content_of p = record {
   entries = map entries p.indexes;
   locks = p.locks;
   desks = p.desks;
+  pace = pace_of p.pace;
   history = p.history.items;
   reserved = p.reserved;
 }
@@ -107,6 +114,7 @@ pub record AreOf (w : World) (p : Content) : Type 0 where
   pub entries : p.entries ≡ w.entries
   pub locks : LocksAre w.holds w.waits p.locks
   pub desks : DesksStand p.desks w
+  pub pace : p.pace ≡ w.pace
   pub reserved : p.reserved ≡ reserves p.head w
 
 -- the content stands for its history

@@ -4,6 +4,7 @@
 mod chain;
 mod changes;
 mod locks;
+mod pace;
 mod parts;
 mod state;
 
@@ -13,5 +14,6 @@ pub use locks::{
     Judged, can_claim, covered, enqueue, grants, hold, is_fresh_on, is_limited, judge, place, take,
     take_kept,
 };
+pub use pace::Pace;
 pub use parts::Parts;
 pub use state::State;

@@ -5,6 +5,7 @@ ghost use Rattle.iso_types.specs.Head.{rows_of, tables as tables_of};
 ghost use Rattle.iso_state.specs.Firsts.{first_content, first_desk};
 ghost use Rattle.iso_state.specs.Stands.{HeadFits, StandsFor, content_of};
 
+use crate::pace::Pace;
 use iso_history::History;
 use iso_key::KeyIndex;
 use iso_locklist::LockList;
@@ -15,8 +16,8 @@ use iso_uow::Units;
 use std::alloc::Global;
 
 /// The parts of the state: the head that it began with; for each table its slots by rid; for each index its entries; the lock
-/// list; the log; for each connection its open unit and its desk; the history; and the sum of all entries that are kept in
-/// reserve, so that each statement can be answered and each unit undone and ended within the history's limit.
+/// list; the log; for each connection its open unit and its desk; what the dispatcher has done; the history; and the sum of all
+/// entries that are kept in reserve, so that each statement can be answered and each unit undone and ended within the history's limit.
 #[derive(Drop)]
 pub struct Parts {
     pub head: Head,
@@ -26,6 +27,7 @@ pub struct Parts {
     pub log: Log,
     pub units: Units,
     pub desks: Items<Desk>,
+    pub pace: Pace,
     pub history: History,
     pub reserved: u32,
 }
@@ -118,6 +120,12 @@ impl Parts {
             log: Log::new(alloc, &head.config),
             units: Units::new(alloc, conns as u8)?,
             desks: first_desks(alloc, &head.conns)?,
+            pace: Pace {
+                purged: false,
+                stopped: false,
+                halted: false,
+                finished: false,
+            },
             history: first_history(alloc, reserved)?,
             reserved,
         })

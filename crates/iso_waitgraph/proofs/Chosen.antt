@@ -1,5 +1,5 @@
 -- The least way back is the chosen cycle.
-use Rattle.std.proofs.Common.{◌≡◌, ℕ, suc, ◌+◌, ◌<◌, ◌≤◌, ◌↔◌, ◌⊎◌, inl, inr, Bool, true, false, ◌||◌, ◌==◌, List, [], ◌∷◌, ◌++◌, length, refl, sym, ◌∙◌, ap, subst, arith, eqb, length-append}
+use Rattle.std.proofs.Common.{◌≡◌, ℕ, suc, ◌+◌, ◌<◌, ◌≤◌, ◌↔◌, ◌⊎◌, inl, inr, Bool, true, false, ◌||◌, ◌==◌, List, [], ◌∷◌, length, refl, sym, ◌∙◌, ap, subst, arith, eqb}
 use Rattle.std.specs.Option.{MatchOption, is_some}
 use Rattle.std.specs.Prelude.{None, Option, Some}
 use Rattle.std.specs.List.{AllByRecursion, IsDistinct, list_any}
@@ -10,47 +10,17 @@ use Rattle.iso_types.specs.Edges.{has_edge, leads}
 use Rattle.iso_types.specs.declared.edges.Edges.{Edges}
 use Rattle.iso_types.specs.declared.value.Conn.{Conn}
 use Rattle.iso_waitgraph.proofs.Distances.{shortest-walk}
+use Rattle.iso_waitgraph.proofs.Paths.{cycle-turned}
 use Rattle.iso_waitgraph.proofs.Sets.{or-left, place-within}
 use Rattle.iso_waitgraph.proofs.Ways.{away-cycle, conn-is, falls-length, walk-of, way-cycle}
 use Rattle.iso_waitgraph.specs.Walks.{AreLevels, IsAway, IsLeastWay, IsNoNearer, Walk, set_at}
 
--- a way through a connection, cut there
-cut : (edge : Conn → Conn → Bool) (s end c : Conn) (cs : List Conn) → Leads edge c cs end → is_among s cs ≡ true
-    → (xs : List Conn) × (ys : List Conn) × Leads edge c xs s × Leads edge s ys end × (length xs + suc (length ys) ≡ length cs)
-cut edge s end c [] h on = absurd (both_ways false refl on)
-cut edge s end c (d ∷ ds) h on =
-    elim (or_cases (s.0 == d.0) (is_among s ds) on) [
-      | inl e ↦
-          let same : d ≡ s = sym (conn-is s d (eqb-true s.0 d.0 e)) in
-          let P : Conn → Type 0 = λ x. edge c x ≡ true in
-          let Q : Conn → Type 0 = λ x. Leads edge x ds end in
-          ([], ds, subst P same h.0, subst Q same h.1, omega arith)
-      | inr r ↦
-          let t : (xs : List Conn) × (ys : List Conn) × Leads edge d xs s × Leads edge s ys end × (length xs + suc (length ys) ≡ length ds) =
-          cut edge s end d ds h.1 r in
-          (d ∷ t.0, t.1, (h.0, t.2), t.3, omega (arith, t.4))
-    ]
-
--- two ways, one after the other
-joined-ways : (edge : Conn → Conn → Bool) (a b end : Conn) (xs ys : List Conn) → Leads edge a xs b → Leads edge b ys end → Leads edge a (xs ++ b ∷ ys) end
-joined-ways edge a b end [] ys h g = (h, g)
-joined-ways edge a b end (x ∷ xs) ys h g = (h.0, joined-ways edge x b end xs ys h.1 g)
-
 -- a cycle through a connection, from it on
 closed : (edge : Conn → Conn → Bool) (s : Conn) (q : List Conn) → IsCycle edge q → is_among s q ≡ true
     → (es : List Conn) × Leads edge s es s × (suc (length es) ≡ length q)
-closed edge s [] h on = absurd h
-closed edge s (c ∷ cs) h on =
-    elim (or_cases (s.0 == c.0) (is_among s cs) on) [
-      | inl e ↦
-          let same : c ≡ s = sym (conn-is s c (eqb-true s.0 c.0 e)) in
-          let P : Conn → Type 0 = λ x. Leads edge x cs x in
-          (cs, subst P same h.1, omega arith)
-      | inr r ↦
-          let t : (xs : List Conn) × (ys : List Conn) × Leads edge c xs s × Leads edge s ys c × (length xs + suc (length ys) ≡ length cs) =
-          cut edge s c c cs h.1 r in
-          (t.1 ++ c ∷ t.0, joined-ways edge s c s t.1 t.0 t.3 t.2, rw (length-append {A = Conn}) (omega (arith, t.4)))
-    ]
+closed edge s q h on =
+    let t : (es : List Conn) × IsCycle edge (s ∷ es) × (length (s ∷ es) ≡ length q) = cycle-turned edge s q h on in
+    (t.0, t.1.1, t.2)
 
 abbrev numbers : List Conn → List ℕ
 numbers [] = []
@@ -205,7 +175,8 @@ none-of (Some x) P Q h e = absurd (both_ways true e refl)
 
 -- the start of the cycle that was found is the least connection on a cycle
 pub some-of : (sets : List Edges) (start : ℕ) (o : Option (List Conn))
-    → MatchOption o ((q : List Conn) → IsCycle (leads sets) q → is_among (record { 0 = start }) q ≡ true → ⊥) (IsShortestThrough (leads sets) (record { 0 = start }))
+    → MatchOption o ((q : List Conn) → IsCycle (leads sets) q → is_among (record { 0 = start }) q ≡ true → ⊥)
+    (IsShortestThrough (leads sets) (record { 0 = start }))
     → is_some o ≡ true
     → ((q : List Conn) (d : Conn) → IsCycle (leads sets) q → is_among d q ≡ true → start ≤ d.0)
     → MatchOption o (HasNoCycle (leads sets)) (IsChosen (leads sets))

@@ -1,7 +1,7 @@
-use Rattle.std.proofs.Common.{◌≡◌, ◌≤◌, ◌+◌, ◌-◌, ◌∙◌, ℕ, List, arith, length, ap, sym, subst, refl, false}
+use Rattle.std.proofs.Common.{◌≡◌, ◌+◌, ◌-◌, ◌∙◌, ℕ, arith, ap, sym, subst, false}
 use Rattle.iso_chain.specs.Writes.{committed}
 use Rattle.iso_history.specs.Makers.{by_agent}
-use Rattle.iso_history.specs.Records.{left, left_of}
+use Rattle.iso_history.specs.Records.{left}
 use Rattle.iso_history.specs.Units.{unit_of}
 use Rattle.iso_history.specs.declared.entry.Act.TheVariants.{Commit}
 use Rattle.iso_locklist.specs.Places.{IsSameLimits, Ledger}
@@ -13,8 +13,6 @@ use Rattle.iso_locklist.specs.Holding.{LocksAre}
 use Rattle.iso_state.specs.Stands.{Content, content_of, desk_at, world_of}
 use Rattle.iso_state.proofs.ByKind.{spends-after}
 use Rattle.iso_state.proofs.FactsAlong.{reserved-small}
-use Rattle.iso_queue.specs.Locks.{dropped}
-use Rattle.iso_state.proofs.Steps.{limits-after}
 use Rattle.iso_ends.proofs.ending.commit.Goals as goal
 
 pub overflow_sub-parts : goal.overflow_sub-parts
@@ -35,17 +33,15 @@ pub returns-clause-stands : goal.returns-clause-stands
 returns-clause-stands c =
     let p = c.args.parts.now in
     let m = c.write_commit-left.new.parts in
-    let mid = c.release_all.new.self in
-    let l = c.cancel.new.self in
+    let l = c.give_up.new.locks in
     let wrote = c.write_commit-left.ensures.wrote in
     let locks : m.locks ≡ p.locks = ap (λ (x : Content). x.locks) wrote in
     let k = committed (content_of p).chain c.args.conn (left (world_of p).records (unit_of (world_of p) c.args.conn)) in
     commit-place p c.move_to.new.parts c.args.conn c.requires.stands c.requires.open c.requires.conn c.requires.runs l
     (spends-after p m c.move_to.new.parts c.write_commit-left.ensures.room c.move_to.ensures.spends)
-    (c.cancel.ensures.lists (dropped c.args.conn (world_of p).holds) (world_of p).waits
-    (c.release_all.ensures.lists (world_of p).holds (world_of p).waits
-    (subst (λ (x : Ledger). LocksAre (world_of p).holds (world_of p).waits x) (sym locks) c.requires.stands.parts.locks)))
-    (subst (λ (x : Ledger). IsSameLimits l x) locks (limits-after m.locks mid l c.release_all.ensures.limits c.cancel.ensures.limits))
+    (c.give_up.ensures.lists (world_of p).holds (world_of p).waits
+    (subst (λ (x : Ledger). LocksAre (world_of p).holds (world_of p).waits x) (sym locks) c.requires.stands.parts.locks))
+    (subst (λ (x : Ledger). IsSameLimits l x) locks c.give_up.ensures.limits)
     (c.move_to.ensures.wrote
     ∙ ap (λ (x : Content). seated (record x { locks = l; reserved = x.reserved - (c.write_commit-left.result + 2) }) c.args.conn
     (record c.desk_of.result { phase = Idle; claimed = false }) (by_agent c.args.conn Commit)) wrote

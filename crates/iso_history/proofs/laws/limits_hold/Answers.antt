@@ -1,4 +1,5 @@
 use Rattle.iso_history.proofs.laws.limits_hold.Goals as goal
+use Rattle.iso_history.proofs.facts.Shares.{shares-world}
 use Rattle.iso_history.proofs.limits.Within.{limit-holds, log_limit-holds}
 
 pub returns-clause-entries : goal.returns-clause-entries
@@ -6,3 +7,6 @@ returns-clause-entries c = limit-holds
 
 pub returns-clause-records : goal.returns-clause-records
 returns-clause-records c = log_limit-holds
+
+pub returns-clause-locks : goal.returns-clause-locks
+returns-clause-locks c = shares-world

@@ -1,38 +1,37 @@
 use Rattle.std.proofs.Common.{◌≡◌, ◌∙◌, ap, subst, sym, true}
 use Rattle.iso_history.specs.Makers.{by_agent}
+use Rattle.iso_history.specs.Outcomes.{asked_by}
 use Rattle.iso_history.specs.Requests.{Outcome}
 use Rattle.iso_history.specs.Stops.{is_full}
 use Rattle.iso_state.specs.Judged.{judged_as}
 use Rattle.iso_state.specs.Stands.{world_of}
 use Rattle.iso_state.specs.declared.locks.Judged.{Judged}
 use Rattle.iso_state.proofs.ByKind.{fault-was}
-use Rattle.iso_locks.specs.Answers.{asked_act}
 use Rattle.iso_locks.proofs.locking.lock.Goals as goal
 
 pub returns-in_err-grant-in-Granted-clause-full : goal.returns-in_err-grant-in-Granted-clause-full
 returns-in_err-grant-in-Granted-clause-full c =
     let p = c.args.parts.now in
-    λ e. subst (λ (o : Outcome). is_full p.head (world_of p) (by_agent c.args.conn (asked_act c.args.name c.args.mode o)) ≡ true)
+    λ e. subst (λ (o : Outcome). is_full p.head (world_of p) (by_agent c.args.conn (asked_by p.head (world_of p) c.args.conn c.args.name c.args.mode o)) ≡ true)
     (ap (λ (j : Judged). judged_as j) (sym c.in-Granted.is) ∙ c.judge.ensures)
     (c.grant.ensures.full (fault-was _ _ _ _ c.in_err-grant-in-Granted.was c.from_residual.ensures.1 e))
 
 pub returns-in_err-wait-in-Queues-clause-full : goal.returns-in_err-wait-in-Queues-clause-full
 returns-in_err-wait-in-Queues-clause-full c =
     let p = c.args.parts.now in
-    λ e. subst (λ (o : Outcome). is_full p.head (world_of p) (by_agent c.args.conn (asked_act c.args.name c.args.mode o)) ≡ true)
+    λ e. subst (λ (o : Outcome). is_full p.head (world_of p) (by_agent c.args.conn (asked_by p.head (world_of p) c.args.conn c.args.name c.args.mode o)) ≡ true)
     (ap (λ (j : Judged). judged_as j) (sym c.in-Queues.is) ∙ c.judge.ensures)
     (c.wait.ensures.full (fault-was _ _ _ _ c.in_err-wait-in-Queues.was c.from_residual-in_err-wait-in-Queues.ensures.1 e))
 
 pub returns-in_err-time_out-in-TimesOut-clause-full : goal.returns-in_err-time_out-in-TimesOut-clause-full
 returns-in_err-time_out-in-TimesOut-clause-full c =
     let p = c.args.parts.now in
-    λ e. subst (λ (o : Outcome). is_full p.head (world_of p) (by_agent c.args.conn (asked_act c.args.name c.args.mode o)) ≡ true)
+    λ e. subst (λ (o : Outcome). is_full p.head (world_of p) (by_agent c.args.conn (asked_by p.head (world_of p) c.args.conn c.args.name c.args.mode o)) ≡ true)
     (ap (λ (j : Judged). judged_as j) (sym c.in-TimesOut.is) ∙ c.judge.ensures)
     (c.time_out.ensures.full (fault-was _ _ _ _ c.in_err-time_out-in-TimesOut.was c.from_residual-in_err-time_out-in-TimesOut.ensures.1 e))
 
-pub returns-in_err-refuse-in-AtLimit-clause-full : goal.returns-in_err-refuse-in-AtLimit-clause-full
-returns-in_err-refuse-in-AtLimit-clause-full c =
+pub returns-in-AtLimit-clause-full : goal.returns-in-AtLimit-clause-full
+returns-in-AtLimit-clause-full c =
     let p = c.args.parts.now in
-    λ e. subst (λ (o : Outcome). is_full p.head (world_of p) (by_agent c.args.conn (asked_act c.args.name c.args.mode o)) ≡ true)
-    (ap (λ (j : Judged). judged_as j) (sym c.in-AtLimit.is) ∙ c.judge.ensures)
-    (c.refuse.ensures.full (fault-was _ _ _ _ c.in_err-refuse-in-AtLimit.was c.from_residual-in_err-refuse-in-AtLimit.ensures.1 e))
+    λ e. subst (λ (o : Outcome). is_full p.head (world_of p) (by_agent c.args.conn (asked_by p.head (world_of p) c.args.conn c.args.name c.args.mode o)) ≡ true)
+    (ap (λ (j : Judged). judged_as j) (sym c.in-AtLimit.is) ∙ c.judge.ensures) (c.escalate.ensures.full e)

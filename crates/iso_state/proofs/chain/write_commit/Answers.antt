@@ -1,7 +1,7 @@
-use Rattle.std.proofs.Common.{◌≡◌, ◌≤◌, ◌+◌, ◌-◌, ◌∙◌, ℕ, List, arith, length, ap, sym}
+use Rattle.std.proofs.Common.{arith, ap}
 use Rattle.iso_chain.proofs.Asks.{commit-asks, line-of}
 use Rattle.iso_chain.specs.Stands.{Chained}
-use Rattle.iso_history.specs.Records.{left, left_of}
+use Rattle.iso_history.specs.Records.{left}
 use Rattle.iso_history.specs.Units.{unit_of}
 use Rattle.iso_state.proofs.Commits.{commit-left}
 use Rattle.iso_state.proofs.FactsAlong.{kept-of, sound-of, unit-of, work-there}

@@ -1,4 +1,4 @@
-use Rattle.std.proofs.Common.{◌≤◌, length, subst, ℕ, sym}
+use Rattle.std.proofs.Common.{◌≤◌, subst, ℕ, sym}
 use Rattle.iso_state.proofs.FactsAlong.{entries-small}
 use Rattle.iso_state.proofs.changes.make_room.Goals as goal
 

@@ -1,0 +1,2 @@
+pub mod SlotReads
+pub mod LookSteps

@@ -1,0 +1,26 @@
+use Rattle.std.proofs.Common.{◌∙◌, ap, sym, ℕ, Option}
+use Rattle.iso_history.specs.Units.{unit_of as unit_in}
+use Rattle.iso_state.specs.Stands.{content_of, world_of}
+use Rattle.iso_table.specs.declared.slot.Slot.{Slot}
+use Rattle.iso_reads.proofs.SlotReads.{beside-is, beside_by, head-there}
+use Rattle.iso_reads.proofs.slots.is_changed_beside.Goals as goal
+
+pub maker_of-requires : goal.maker_of-requires
+maker_of-requires c =
+    head-there (content_of c.args.parts.now) c.requires.stands.stands c.args.table c.args.rid c.in-Some.head
+    (ap (λ (s : Slot). s.head) (sym c.slot_at.ensures) ∙ c.in-Some.is)
+
+pub returns-in-Some : goal.returns-in-Some
+returns-in-Some c =
+    let p = content_of c.args.parts.now in
+    rw (c.maker_of.ensures, c.unit_of.ensures)
+    (ap (λ (o : Option ℕ). beside_by p.chain.log (unit_in (world_of c.args.parts.now) c.args.conn) o)
+    (sym c.in-Some.is ∙ ap (λ (s : Slot). s.head) c.slot_at.ensures)
+    ∙ beside-is p c.requires.stands.stands c.args.table c.args.rid c.args.conn)
+
+pub returns-in-None : goal.returns-in-None
+returns-in-None c =
+    let p = content_of c.args.parts.now in
+    ap (λ (o : Option ℕ). beside_by p.chain.log (unit_in (world_of c.args.parts.now) c.args.conn) o)
+    (sym c.in-None.is ∙ ap (λ (s : Slot). s.head) c.slot_at.ensures)
+    ∙ beside-is p c.requires.stands.stands c.args.table c.args.rid c.args.conn
