@@ -1,6 +1,6 @@
 -- The parts after a change.
-use Rattle.std.proofs.Common.{◌≡◌, ◌≤◌, ◌<◌, ◌+◌, ◌∷◌, ◌++◌, [], ℕ, Bool, true, false, not, List, length, refl, ap, sym, ◌∙◌, arith, subst, Some, None, Option}
-use Rattle.std.specs.Prelude.{Err, nat_lt}
+use Rattle.std.proofs.Common.{◌≡◌, ◌≤◌, ◌<◌, ◌+◌, ◌∷◌, ◌++◌, [], ℕ, Bool, true, false, not, ◌||◌, List, length, refl, ap, sym, ◌∙◌, arith, subst, Some, None, Option}
+use Rattle.std.specs.Prelude.{Err, nat_lt, slice_set}
 use Rattle.iso_chain.specs.Stands.{AreChained, Chained}
 use Rattle.iso_history.proofs.limits.Limit.{needs-le}
 use Rattle.iso_history.proofs.limits.Pushed.{debt-pushed, needs-pushed}
@@ -12,7 +12,8 @@ use Rattle.iso_history.specs.Makers.{by_agent}
 use Rattle.iso_history.specs.Records.{debt}
 use Rattle.iso_history.specs.Reserves.{HasRoom, debt_less, debt_more, reserves_less, reserves_more, room_of}
 use Rattle.iso_history.specs.Stops.{is_full, is_never_refused, needs, reserves}
-use Rattle.iso_history.specs.World.{World}
+use Rattle.iso_history.specs.Paces.{is_stop, pace_by}
+use Rattle.iso_history.specs.World.{Pace, World}
 use Rattle.iso_history.specs.declared.entry.Act.{Act}
 use Rattle.iso_history.specs.declared.entry.Act.TheVariants.{Delete, Insert, Update}
 use Rattle.iso_history.specs.declared.entry.Who.TheVariants.{Agent}
@@ -26,7 +27,7 @@ use Rattle.iso_state.proofs.ByKind.{full-is, ready-allowed}
 use Rattle.iso_state.proofs.Desks.{IsSameSeat, claims-own, seat-kept}
 use Rattle.iso_state.proofs.FactsAlong.{apart-of, debt-of, within-of}
 use Rattle.iso_state.proofs.Steps.{IsOwn, conn-is, is-open, own-desk, own-step, step-stands}
-use Rattle.iso_state.specs.Changes.{entered, stepped, unclaimed}
+use Rattle.iso_state.specs.Changes.{entered, repaced, stepped, unclaimed}
 use Rattle.iso_state.specs.Stands.{Content, HasPlace, IsDeskOf, Stands, StandsFor, content_of, desk_at, is_claimed, world_of}
 use Rattle.iso_state.specs.Steps.{IsReady, is_past}
 use Rattle.iso_state.specs.declared.parts.Parts.{Parts}
@@ -42,6 +43,7 @@ pub record IsChange (head : Head) (w : World) (c : Conn) (a : Act) : Type 0 wher
   pub refused : is_never_refused a ≡ false
   pub owes : debt_more a ≡ 1
   pub keeps : debt_less w (Agent c) a ≡ 0
+  pub calm : is_stop a ≡ false
 
 same-seat : (w v : World) (c : Conn) → v.ended ≡ w.ended → v.closing ≡ w.closing → v.doom ≡ w.doom → v.waits ≡ w.waits → v.line ≡ w.line
     → v.setting ≡ w.setting → v.floor ≡ w.floor → IsSameSeat w v c
@@ -58,6 +60,7 @@ change-is head w c (Insert t r row) e = record {
   refused = refl;
   owes = refl;
   keeps = refl;
+  calm = refl;
 }
 change-is head w c (Update t r row) e = record {
   seat = same-seat w (after head w (by_agent c (Update t r row))) c refl refl refl refl refl refl refl;
@@ -68,6 +71,7 @@ change-is head w c (Update t r row) e = record {
   refused = refl;
   owes = refl;
   keeps = refl;
+  calm = refl;
 }
 change-is head w c (Delete t r) e = record {
   seat = same-seat w (after head w (by_agent c (Delete t r))) c refl refl refl refl refl refl refl;
@@ -78,8 +82,13 @@ change-is head w c (Delete t r) e = record {
   refused = refl;
   owes = refl;
   keeps = refl;
+  calm = refl;
 }
 change-is head w c _ e = absurd (cc)
+
+-- it leaves the dispatcher's state
+calm-pace : (q : Pace) (c : Conn) (a : Act) → is_stop a ≡ false → pace_by q (Agent c) a ≡ q
+calm-pace q c a e = ap (λ (b : Bool). record q { stopped = b || q.stopped }) e
 
 -- there is room for all that is owed after it
 change-room : (p : Content) (c : Conn) (a : Act) (old new log_new : ℕ) → Stands p → is_change a ≡ true
@@ -138,7 +147,10 @@ module _ (o p q : Parts) (k : Chained) (l : Ledger) (c : Conn) (a : Act) (s : St
       let one = b.more in
       let none = b.less in
       rw wrote (record {
-        stands = step-stands (content_of p) (by_agent c a) k l _ (p.reserved + 1) s.stands change-allowed
+        stands = subst (λ (x : Pace). Stands (repaced (stepped (content_of p) k l (slice_set p.desks c.0 (unclaimed (desk_at p.desks c))) (p.reserved + 1)
+            (by_agent c a)) x))
+            (calm-pace (content_of p).pace c a b.calm)
+            (step-stands (content_of p) (by_agent c a) k l _ (p.reserved + 1) s.stands change-allowed
             (own-step (content_of p) c a k l (unclaimed (desk_at p.desks c)) (p.reserved + 1) s.stands (record {
               chain = chain;
               works = works;
@@ -148,7 +160,7 @@ module _ (o p q : Parts) (k : Chained) (l : Ledger) (c : Conn) (a : Act) (s : St
               desk = seat-kept (world_of p) (after p.head (world_of p) (by_agent c a)) c (desk_at p.desks c) false b.seat
                   (sym b.unclaimed_is ∙ claims-own (world_of p) c a) (own-desk (content_of p) c (desk_at p.desks c) s.stands lt-now refl);
               reserved = omega (arith, one, none);
-            }));
+            })));
         room = change-room (content_of p) c a p.history.spare q.history.spare q.log.spare s.stands kind change-allowed ready.spare push log;
       })
 

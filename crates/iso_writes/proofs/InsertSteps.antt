@@ -89,7 +89,7 @@ relocked-place p q l s are limits wrote room =
     let also = room.log in
     subst (λ (x : Content). HasPlace x q.history.spare q.log.spare) (sym wrote) (record {
       stands = record {
-        parts = record { chain = s.parts.chain; entries = s.parts.entries; locks = are; desks = s.parts.desks; reserved = s.parts.reserved };
+        parts = record { chain = s.parts.chain; entries = s.parts.entries; locks = are; desks = s.parts.desks; reserved = s.parts.reserved; pace = s.parts.pace };
         conns = s.conns;
         works = s.works;
         limits = record {

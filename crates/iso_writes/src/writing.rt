@@ -28,12 +28,7 @@ pub enum Written {
 }
 
 /// Makes the entry of a deletion that is done.
-pub fn delete(
-    parts: &mut Parts,
-    conn: Conn,
-    table: TableId,
-    rid: Rid,
-) -> Result<(), StepFault>
+pub fn delete(parts: &mut Parts, conn: Conn, table: TableId, rid: Rid) -> Result<(), StepFault>
     requires stands { StandsFor parts.old }
     requires open { (world_of parts.old).pace.finished ≡ false }
     requires conn { conn.0 < length parts.old.head.conns }
