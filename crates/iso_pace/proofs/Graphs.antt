@@ -1,5 +1,5 @@
 -- The edges of a history, bit by bit, and as targets of a test.
-use Rattle.std.proofs.Common.{◌≡◌, ℕ, zero, suc, ◌+◌, ◌<◌, ◌≤◌, ◌⊎◌, inl, inr, Bool, true, false, not, ◌&&◌, ◌||◌, ◌==◌, List, [], ◌∷◌, ◌++◌, map, length, filter, find, take, take_while, refl, sym, ◌∙◌, ap, subst, arith, Option, Some, None, ◌≢◌, get_or-set_same, get_or-set_other, slice_index_or}
+use Rattle.std.proofs.Common.{◌≡◌, ℕ, zero, suc, ◌+◌, ◌<◌, ◌≤◌, ◌⊎◌, inl, inr, Bool, true, false, not, ◌&&◌, ◌==◌, List, [], ◌∷◌, map, length, filter, find, take, take_while, refl, sym, ◌∙◌, ap, subst, arith, Option, Some, None, ◌≢◌, get_or-set_same, get_or-set_other, slice_index_or}
 use Rattle.std.specs.Int.{bit_at}
 use Rattle.std.specs.List.{AllByRecursion, list_any, prefix_len, range_with_len}
 use Rattle.std.specs.Option.{option_map_or}
@@ -13,7 +13,7 @@ use Rattle.iso_history.specs.World.{World}
 use Rattle.iso_locklist.proofs.Alike.{none_found}
 use Rattle.iso_queue.specs.Lines.{bits_of}
 use Rattle.iso_queue.specs.Locks.{Hold}
-use Rattle.iso_queue.specs.Queues.{Wait, ahead, blockers, edges, opposes, queue, wait_of}
+use Rattle.iso_queue.specs.Queues.{Wait, ahead, blockers, edges, opposes, wait_of}
 use Rattle.iso_types.specs.Cycles.{is_among}
 use Rattle.iso_types.specs.Edges.{has_edge, leads}
 use Rattle.iso_types.specs.Head.{conns, is_conn}

@@ -3,3 +3,4 @@ pub mod Graphs
 pub mod Walks
 pub mod Stills
 pub mod Rolls
+pub mod Closes

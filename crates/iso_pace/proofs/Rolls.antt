@@ -1,16 +1,15 @@
 -- The parts after the dispatcher ended a connection's wait.
-use Rattle.std.proofs.Common.{◌≡◌, ◌≤◌, ◌<◌, ◌+◌, ◌-◌, ◌⊎◌, inr, ℕ, Bool, true, false, not, length, refl, ap, sym, subst, ◌∙◌, arith, Some}
-use Rattle.std.specs.Prelude.{IsTrue, is_none, is_some, slice_set, unwrap_or}
+use Rattle.std.proofs.Common.{◌≡◌, ◌≤◌, ◌<◌, ◌-◌, inr, ℕ, Bool, true, false, length, refl, ap, sym, ◌∙◌, arith, Some}
+use Rattle.std.specs.Prelude.{is_none, is_some, slice_set, unwrap_or}
 use Rattle.std.proofs.Math.ListN.{length-set}
 use Rattle.iso_chain.proofs.Units.{kept-chained}
 use Rattle.iso_history.proofs.limits.Others.{at-same, others-expire}
-use Rattle.iso_history.specs.After.{after, world}
+use Rattle.iso_history.specs.After.{after}
 use Rattle.iso_history.specs.Legal.{Allowed}
 use Rattle.iso_history.specs.Makers.{by_dispatcher}
 use Rattle.iso_history.specs.Paces.{pace_by}
 use Rattle.iso_history.specs.Phases.{is_phase, phase, phase_of}
 use Rattle.iso_history.specs.Quiet.{is_quiet}
-use Rattle.iso_history.specs.World.{World}
 use Rattle.iso_history.specs.declared.entry.Act.TheVariants.{Expire}
 use Rattle.iso_history.specs.declared.entry.Who.TheVariants.{Dispatcher}
 use Rattle.iso_locklist.specs.Holding.{LocksAre}
@@ -19,13 +18,12 @@ use Rattle.iso_queue.specs.Queues.{is_waiting, unqueued}
 use Rattle.iso_types.specs.declared.desk.Desk.{Desk}
 use Rattle.iso_types.specs.declared.desk.Phase.{Phase}
 use Rattle.iso_types.specs.declared.desk.Phase.TheVariants.{Rolling}
-use Rattle.iso_types.specs.declared.head.Head.{Head}
 use Rattle.iso_types.specs.declared.value.Conn.{Conn}
 use Rattle.iso_state.proofs.ByKind.{reserved-covers}
 use Rattle.iso_state.proofs.Desks.{desks-set, dispatcher-kept, seat-as}
 use Rattle.iso_state.proofs.Steps.{conn-is, is-open, own-desk, step-place}
 use Rattle.iso_state.specs.Changes.{repaced, stepped}
-use Rattle.iso_state.specs.Stands.{HasPlace, IsDeskOf, StandsFor, content_of, desk_at, world_of}
+use Rattle.iso_state.specs.Stands.{IsDeskOf, StandsFor, content_of, desk_at, world_of}
 use Rattle.iso_state.specs.Steps.{Spends}
 use Rattle.iso_state.specs.declared.parts.Parts.{Parts}
 use Rattle.iso_pace.proofs.Stills.{may-take}

@@ -1,29 +1,29 @@
 -- The parts after an entry of the dispatcher that changes nothing but the history.
-use Rattle.std.proofs.Common.{◌≡◌, ◌≤◌, ◌<◌, ◌+◌, ◌⊎◌, inl, inr, ℕ, Bool, true, false, not, length, refl, ap, sym, subst, ◌∙◌, arith, List}
-use Rattle.std.specs.Prelude.{Err, IsTrue, None, Some, Option, is_none, ◌||◌, ◌&&◌}
+use Rattle.std.proofs.Common.{◌≡◌, inl, ℕ, Bool, true, false, not, length, refl, ap, sym, subst, ◌∙◌, arith, List}
+use Rattle.std.specs.Prelude.{None, ◌||◌, ◌&&◌}
 use Rattle.iso_chain.proofs.Units.{kept-chained}
 use Rattle.iso_history.proofs.limits.Others.{same-at}
 use Rattle.iso_history.specs.After.{after, world}
-use Rattle.iso_history.specs.Entries.{least_purgeable, purgeable_from}
-use Rattle.iso_history.specs.Legal.{Allowed, By, ByDispatcher}
+use Rattle.iso_history.specs.Entries.{least_purgeable}
+use Rattle.iso_history.specs.Legal.{ByDispatcher}
 use Rattle.iso_history.specs.Makers.{by_dispatcher}
 use Rattle.iso_history.specs.Paces.{pace_by}
 use Rattle.iso_history.specs.Quiet.{may_take}
-use Rattle.iso_history.specs.Reserves.{log_room_of, records_of, reserves_less, reserves_more}
+use Rattle.iso_history.specs.Reserves.{log_room_of, reserves_less, reserves_more}
 use Rattle.iso_history.specs.Stops.{is_full, is_never_refused}
-use Rattle.iso_history.specs.World.{Pace, World}
+use Rattle.iso_history.specs.World.{World}
 use Rattle.iso_history.specs.declared.entry.Act.{Act}
 use Rattle.iso_history.specs.declared.entry.Act.TheVariants.{Busy, Expire, Snapshot}
-use Rattle.iso_history.specs.declared.entry.Entry.{Entry}
 use Rattle.iso_history.specs.declared.entry.Who.TheVariants.{Dispatcher}
 use Rattle.iso_queue.specs.Queues.{is_waiting}
+use Rattle.iso_queue.specs.declared.LockLine.{LockLine}
 use Rattle.iso_types.specs.declared.head.Head.{Head}
 use Rattle.iso_types.specs.declared.value.Conn.{Conn}
 use Rattle.iso_state.proofs.ByKind.{full-is, ready-allowed}
 use Rattle.iso_state.proofs.Desks.{dispatcher-kept}
-use Rattle.iso_state.proofs.Steps.{IsRoomFor, same-limits, step-place}
+use Rattle.iso_state.proofs.Steps.{same-limits, step-place}
 use Rattle.iso_state.specs.Changes.{noted, repaced}
-use Rattle.iso_state.specs.Stands.{Content, HasPlace, Stands, StandsFor, content_of, desk_at, world_of}
+use Rattle.iso_state.specs.Stands.{Content, HasPlace, StandsFor, content_of, desk_at, world_of}
 use Rattle.iso_state.specs.Steps.{IsReady, Spends, is_past}
 use Rattle.iso_state.specs.declared.parts.Parts.{Parts}
 
@@ -124,6 +124,28 @@ busy-still head w line c = record {
 
 pub vain-still : (head : Head) (w : World) (line : ℕ) (c : Conn) → IsStill head w (Expire line c false)
 vain-still head w line c = record {
+  tables = refl;
+  records = refl;
+  changes = refl;
+  unit = refl;
+  marks = refl;
+  begun = refl;
+  entries = refl;
+  holds = refl;
+  waits = refl;
+  line = refl;
+  doom = refl;
+  floor = refl;
+  ended = refl;
+  closing = refl;
+  more = refl;
+  less = refl;
+  refused = refl;
+  unlogged = refl;
+}
+
+pub snapshot-still : (head : Head) (w : World) (line : ℕ) (locks : List LockLine) → IsStill head w (Snapshot line locks)
+snapshot-still head w line locks = record {
   tables = refl;
   records = refl;
   changes = refl;

@@ -1,7 +1,13 @@
 -- What the steps of the dispatcher answer.
-use Rattle.std.specs.Prelude.{Bool, true, false, if◌then◌else◌}
+use Rattle.std.specs.Option.{option_map_or}
+use Rattle.std.specs.Prelude.{Bool, true, false, List, [], ◌∷◌, if◌then◌else◌}
+use Rattle.iso_history.specs.Makers.{by_dispatcher}
+use Rattle.iso_history.specs.declared.entry.Act.TheVariants.{Close, Finish}
+use Rattle.iso_history.specs.declared.entry.Entry.{Entry}
+use Rattle.iso_pace.specs.declared.closing.Closing.{Closing}
+use Rattle.iso_pace.specs.declared.closing.Closing.TheVariants.{Finished, One}
 use Rattle.iso_history.specs.Phases.{is_phase, phase}
-use Rattle.iso_history.specs.Quiet.{is_quiet}
+use Rattle.iso_history.specs.Quiet.{all_ended, is_quiet, least_idle}
 use Rattle.iso_history.specs.World.{World}
 use Rattle.iso_pace.specs.declared.lines.Paced.{Paced}
 use Rattle.iso_pace.specs.declared.lines.Paced.TheVariants.{Busy, Done, NoEffect, NotQuiet, Stopping}
@@ -23,3 +29,20 @@ expired head w c =
     if w.pace.stopped then Stopping
     else if is_quiet head w then (if is_phase (phase w c) Phase.Waiting then Done else NoEffect)
     else NotQuiet
+
+-- a line SNAPSHOT, likewise
+abbrev pub shown : Head → World → Paced
+shown head w = if w.pace.stopped then Stopping else if is_quiet head w then Done else NotQuiet
+
+-- closing: the end where all have ended; nothing where not all is quiet; else the least idle connection
+abbrev pub closed : Head → World → Closing
+closed head w =
+    if all_ended head w then Finished
+    else if is_quiet head w then option_map_or One (least_idle head w) Closing.NotQuiet
+    else Closing.NotQuiet
+
+-- what is recorded then
+abbrev pub closing : Closing → List Entry
+closing (One c) = by_dispatcher (Close c) ∷ []
+closing Closing.NotQuiet = []
+closing Finished = by_dispatcher Finish ∷ []

@@ -1,5 +1,5 @@
 -- How far the sets of edges are told.
-use Rattle.std.specs.Prelude.{◌≡◌, ◌<◌, ◌≤◌, ℕ, false, List, slice_index_or}
+use Rattle.std.specs.Prelude.{◌≡◌, ◌<◌, ◌≤◌, ℕ, false, List}
 use Rattle.iso_history.specs.Quiet.{edges_in}
 use Rattle.iso_history.specs.World.{World}
 use Rattle.iso_types.specs.Cycles.{is_among}

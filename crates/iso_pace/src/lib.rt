@@ -2,10 +2,12 @@
 //! one entry to the history of the state.
 #![tactic(auto)]
 
+mod closing;
 mod cycles;
 mod lines;
 mod resting;
 
+pub use closing::{Closing, close_next};
 pub use cycles::cyclic;
-pub use lines::{Paced, expire};
+pub use lines::{Paced, expire, snapshot};
 pub use resting::{able, quiet};

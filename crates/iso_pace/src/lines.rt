@@ -1,6 +1,6 @@
 //! The steps by which the dispatcher takes a line of the script.
 
-ghost use Rattle.std.specs.Prelude.{if◌then◌else◌, ◌≡◌, ◌<◌, ◌≤◌, ◌++◌, [], ◌∷◌, length, false, true, Err, IfOk, OnOk, OnErr, Option, Some, None};
+ghost use Rattle.std.specs.Prelude.{if◌then◌else◌, ◌≡◌, ◌≢◌, ◌<◌, ◌≤◌, ◌++◌, [], ◌∷◌, length, false, true, Err, IfOk, OnOk, OnErr, Option, Some, None};
 ghost use Rattle.iso_history.specs.Makers.{by_dispatcher};
 ghost use Rattle.iso_history.specs.Phases.{is_phase, phase};
 ghost use Rattle.iso_history.specs.Quiet.{is_busy, is_quiet};
@@ -10,13 +10,14 @@ ghost use Rattle.iso_queue.specs.Snapshots.{snapshot as listed};
 ghost use Rattle.iso_state.specs.Stands.{StandsFor, content_of, pace_of, world_of};
 ghost use Rattle.iso_state.specs.Changes.{noted, repaced};
 ghost use Rattle.iso_state.specs.Steps.{Spends};
-ghost use Rattle.iso_pace.specs.Answers.{expired, is_taken};
+ghost use Rattle.iso_pace.specs.Answers.{expired, is_taken, shown};
 ghost use Rattle.iso_types.specs.declared.desk.Phase.TheVariants as Phases;
 
 use crate::resting::{phase_of, quiet, same_phase};
 use iso_history::{Act, Entry, Who};
+use iso_queue::LockLine;
 use iso_state::{Parts, desk_of, make_room, move_to, note};
-use iso_types::{Conn, Desk, Phase, StepFault};
+use iso_types::{Conn, Desk, Items, Phase, StepFault};
 
 /// What comes of a line. `NoEffect`: nobody waited. `NotQuiet`: the line is not taken yet. `Stopping`: no line is taken any more.
 #[derive(Clone, Copy, PartialEq, Eq)]
@@ -29,7 +30,7 @@ pub enum Paced {
 }
 
 /// An entry of the dispatcher.
-fn of_dispatcher(act: Act) -> Entry
+pub(crate) fn of_dispatcher(act: Act) -> Entry
     ensures { result ≡ by_dispatcher act }
 {
     Entry {
@@ -160,4 +161,60 @@ fn waits(parts: &Parts, conn: Conn) -> bool
     ensures { result ≡ is_phase (phase (world_of parts.now) conn) Phases.Waiting }
 {
     same_phase(phase_of(parts, conn), Phase::Waiting)
+}
+
+/// All holds and waits, as a snapshot lists them.
+fn list(parts: &Parts) -> Result<Items<LockLine>, StepFault>
+    requires stands { StandsFor parts.now }
+    ensures lines { IfOk result (λ lines. lines ≡ listed parts.now.head (world_of parts.now).holds (world_of parts.now).waits) }
+    ensures fault { result ≢ Err StepFault.HistoryFull }
+{
+    match parts.locks.snapshot(&parts.head) {
+        Ok(lines) => Ok(lines),
+        Err(_) => Err(StepFault::Memory),
+    }
+}
+
+/// Records all holds and waits.
+fn show(parts: &mut Parts, line: u32, locks: Items<LockLine>) -> Result<(), StepFault>
+    requires stands { StandsFor parts.old }
+    requires open { (world_of parts.old).pace.finished ≡ false }
+    requires plain { length parts.old.head.indexes ≡ 0 } // keys come next
+    requires going { (world_of parts.old).pace.stopped ≡ false }
+    requires quiet { is_quiet parts.old.head (world_of parts.old) ≡ true }
+    requires locks { locks ≡ listed parts.old.head (world_of parts.old).holds (world_of parts.old).waits }
+    ensures stands { StandsFor parts.new }
+    ensures head { parts.new.head ≡ parts.old.head }
+    ensures full { result ≡ Err StepFault.HistoryFull → is_full parts.old.head (world_of parts.old) (by_dispatcher (Acts.Snapshot line (listed parts.old.head (world_of parts.old).holds (world_of parts.old).waits))) ≡ true }
+    ensures ok { OnOk result (parts.new.history.items ≡ parts.old.history.items ++ by_dispatcher (Acts.Snapshot line (listed parts.old.head (world_of parts.old).holds (world_of parts.old).waits)) ∷ []) }
+    ensures err { OnErr result (content_of parts.new ≡ content_of parts.old) }
+{
+    make_room(parts, 1)?;
+    mark(parts, of_dispatcher(Act::Snapshot { line, locks }));
+    Ok(())
+}
+
+/// Takes a line SNAPSHOT. `Done`: all holds and waits are recorded; `NotQuiet`, `Stopping`: the line is not taken, since not
+/// all is quiet, or somebody stopped. `HistoryFull`: its entry would be full. After a fault all is as before. It sorts the
+/// names. Db2 LUW, 'MON_GET_LOCKS'.
+pub fn snapshot(parts: &mut Parts, line: u32) -> Result<Paced, StepFault>
+    requires stands { StandsFor parts.old }
+    requires open { (world_of parts.old).pace.finished ≡ false }
+    requires plain { length parts.old.head.indexes ≡ 0 } // keys come next
+    ensures stands { StandsFor parts.new }
+    ensures head { parts.new.head ≡ parts.old.head }
+    ensures answer { IfOk result (λ a. a ≡ shown parts.old.head (world_of parts.old)) }
+    ensures full { result ≡ Err StepFault.HistoryFull → is_full parts.old.head (world_of parts.old) (by_dispatcher (Acts.Snapshot line (listed parts.old.head (world_of parts.old).holds (world_of parts.old).waits))) ≡ true }
+    ensures ok { OnOk result (parts.new.history.items ≡ parts.old.history.items ++ (if is_taken (shown parts.old.head (world_of parts.old)) then by_dispatcher (Acts.Snapshot line (listed parts.old.head (world_of parts.old).holds (world_of parts.old).waits)) ∷ [] else [])) }
+    ensures err { OnErr result (content_of parts.new ≡ content_of parts.old) }
+{
+    if parts.pace.stopped {
+        return Ok(Paced::Stopping);
+    }
+    if !quiet(parts) {
+        return Ok(Paced::NotQuiet);
+    }
+    let locks = list(parts)?;
+    show(parts, line, locks)?;
+    Ok(Paced::Done)
 }

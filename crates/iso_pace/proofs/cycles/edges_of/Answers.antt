@@ -1,4 +1,4 @@
-use Rattle.iso_state.specs.Stands.{content_of, world_of}
+use Rattle.iso_state.specs.Stands.{world_of}
 use Rattle.iso_state.proofs.FactsAlong.{facts-of}
 use Rattle.iso_state.proofs.LockReads.{one-wait}
 use Rattle.iso_pace.proofs.Graphs.{edges-told}

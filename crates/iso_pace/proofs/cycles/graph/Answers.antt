@@ -1,4 +1,4 @@
-use Rattle.std.proofs.Common.{◌∙◌, arith, length, refl, ◌<◌, ◌≤◌}
+use Rattle.std.proofs.Common.{◌∙◌, arith, refl}
 use Rattle.std.proofs.Math.ListN.{length-set}
 use Rattle.iso_state.specs.Stands.{world_of}
 use Rattle.iso_pace.proofs.Graphs.{all-told, first-told, one-told}

@@ -1,7 +1,4 @@
-use Rattle.std.proofs.Common.{◌-◌, ◌∙◌, ap, arith, false, true}
-use Rattle.std.specs.Prelude.{slice_set}
-use Rattle.iso_history.specs.Makers.{by_dispatcher}
-use Rattle.iso_history.specs.declared.entry.Act.TheVariants.{Expire}
+use Rattle.std.proofs.Common.{◌-◌, ◌∙◌, ap, false}
 use Rattle.iso_history.specs.declared.entry.Entry.{Entry}
 use Rattle.iso_types.specs.declared.desk.Desk.{Desk}
 use Rattle.iso_types.specs.declared.desk.Phase.TheVariants.{Rolling}

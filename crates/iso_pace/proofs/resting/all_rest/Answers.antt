@@ -1,4 +1,4 @@
-use Rattle.std.proofs.Common.{◌≡◌, ◌<◌, ◌∙◌, ℕ, arith, length, sym, true, false}
+use Rattle.std.proofs.Common.{◌<◌, ◌∙◌, arith, length, sym, true}
 use Rattle.iso_history.specs.Quiet.{is_resting}
 use Rattle.iso_state.specs.Stands.{world_of}
 use Rattle.iso_pace.proofs.Walks.{all-pass, next-one, one-fails}

@@ -1,0 +1,14 @@
+use Rattle.std.proofs.Common.{◌∙◌, sym}
+use Rattle.iso_state.specs.Stands.{world_of}
+use Rattle.iso_pace.proofs.Closes.{conn-least, idle-least}
+use Rattle.iso_pace.proofs.closing.close_next.Goals as goal
+
+pub close-requires-clause-conn : goal.close-requires-clause-conn
+close-requires-clause-conn c =
+    let p = c.args.parts.now in
+    conn-least p.head (world_of p) c.in-Some.conn (sym c.first_idle.ensures ∙ c.in-Some.is)
+
+pub close-requires-clause-idle : goal.close-requires-clause-idle
+close-requires-clause-idle c =
+    let p = c.args.parts.now in
+    idle-least p.head (world_of p) c.in-Some.conn (sym c.first_idle.ensures ∙ c.in-Some.is)
