@@ -1,3 +1,4 @@
 pub mod LockSteps
 pub mod ClaimSteps
 pub mod FreeSteps
+pub mod Escalations

@@ -196,7 +196,7 @@ fn escalate_on(
             time_out(parts, conn, &name, mode, Why::Escalation)?;
             Ok(Answer::TimedOut)
         }
-        Judged::AtLimit => Err(StepFault::Memory),
+        Judged::AtLimit => unreachable!(),
     }
 }
 

@@ -7,6 +7,7 @@ use Rattle.iso_state.specs.Judged.{judged_as}
 use Rattle.iso_state.specs.Stands.{world_of}
 use Rattle.iso_state.specs.declared.locks.Judged.{Judged}
 use Rattle.iso_state.proofs.ByKind.{fault-was}
+use Rattle.iso_locks.proofs.Escalations.{escalations-fit}
 use Rattle.iso_locks.proofs.locking.escalate_on.Goals as goal
 
 pub returns-in_err-grant-in-Granted-clause-full : goal.returns-in_err-grant-in-Granted-clause-full
@@ -29,3 +30,8 @@ returns-in_err-time_out-in-TimesOut-clause-full c =
     λ e. subst (λ (o : Outcome). is_full p.head (world_of p) (by_agent c.args.conn (escalated_by c.args.table c.args.mode o)) ≡ true)
     (ap (λ (j : Judged). judged_as j) (sym c.in-TimesOut.is) ∙ c.judge.ensures)
     (c.time_out.ensures.full (fault-was _ _ _ _ c.in_err-time_out-in-TimesOut.was c.from_residual-in_err-time_out-in-TimesOut.ensures.1 e))
+
+pub unreachable-requires : goal.unreachable-requires
+unreachable-requires c =
+    escalations-fit c.requires.stands.stands c.args.conn c.args.table c.args.mode c.requires.escalated
+    (sym c.judge.ensures ∙ ap (λ (j : Judged). judged_as j) c.in-AtLimit.is)
