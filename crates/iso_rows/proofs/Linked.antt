@@ -155,9 +155,10 @@ module _ (head : Head) (lines : List Line) (w : World) (k : Conn) where
   pub begins : (p : Point) (e : Entry) (es : List Entry) → is_by k e.who ≡ true → opened head lines w k None ≡ Some p
       → ConductFrom head lines w k (Some p) (e ∷ es) → ConductFrom head lines w k None (e ∷ es)
   unfolding ConductFrom
-  begins p e es own q g =
-      (λ h. same-may (phase w k) None (Some p) e.act q (g.0 h),
-       subst (λ x. ConductFrom head lines (after head w e) k x es) (sym moved-so) g.1)
+  begins p e es own q g = (
+    λ h. same-may (phase w k) None (Some p) e.act q (g.0 h),
+    subst (λ x. ConductFrom head lines (after head w e) k x es) (sym moved-so) g.1,
+  )
     where
       moved-so : point_after head lines w k None e ≡ point_after head lines w k (Some p) e
       moved-so = rw own (same-moved (phase w k) (after head w e) None (Some p) e.act q)
