@@ -1,6 +1,6 @@
 -- The parts after a change.
-use Rattle.std.proofs.Common.{◌≡◌, ◌≤◌, ◌<◌, ◌+◌, ◌∷◌, ◌++◌, [], ℕ, Bool, true, false, not, ◌||◌, List, length, refl, ap, sym, ◌∙◌, arith, subst, Some, None, Option}
-use Rattle.std.specs.Prelude.{Err, nat_lt, slice_set}
+use Rattle.std.proofs.Common.{◌≡◌, ◌≤◌, ◌<◌, ◌+◌, ◌∷◌, ◌++◌, [], ℕ, Bool, true, false, ◌||◌, length, refl, ap, sym, ◌∙◌, arith, subst}
+use Rattle.std.specs.Prelude.{slice_set}
 use Rattle.iso_chain.specs.Stands.{AreChained, Chained}
 use Rattle.iso_history.proofs.limits.Limit.{needs-le}
 use Rattle.iso_history.proofs.limits.Pushed.{debt-pushed, needs-pushed}
@@ -9,9 +9,8 @@ use Rattle.iso_history.specs.After.{after, world}
 use Rattle.iso_history.specs.Lasts.{last_of}
 use Rattle.iso_history.specs.Legal.{Allowed, ByAgent}
 use Rattle.iso_history.specs.Makers.{by_agent}
-use Rattle.iso_history.specs.Records.{debt}
-use Rattle.iso_history.specs.Reserves.{HasRoom, debt_less, debt_more, reserves_less, reserves_more, room_of}
-use Rattle.iso_history.specs.Stops.{is_full, is_never_refused, needs, reserves}
+use Rattle.iso_history.specs.Reserves.{HasRoom, debt_less, debt_more, reserves_less, reserves_more}
+use Rattle.iso_history.specs.Stops.{is_full, is_never_refused}
 use Rattle.iso_history.specs.Paces.{is_stop, pace_by}
 use Rattle.iso_history.specs.World.{Pace, World}
 use Rattle.iso_history.specs.declared.entry.Act.{Act}
@@ -19,16 +18,15 @@ use Rattle.iso_history.specs.declared.entry.Act.TheVariants.{Delete, Insert, Upd
 use Rattle.iso_history.specs.declared.entry.Who.TheVariants.{Agent}
 use Rattle.iso_locklist.specs.Holding.{LocksAre}
 use Rattle.iso_locklist.specs.Places.{IsSameLimits, Ledger}
-use Rattle.iso_types.specs.declared.desk.Desk.{Desk}
 use Rattle.iso_types.specs.declared.head.Head.{Head}
 use Rattle.iso_types.specs.declared.value.Conn.{Conn}
 use Rattle.iso_uow.specs.Book.{debt_of}
 use Rattle.iso_state.proofs.ByKind.{full-is, ready-allowed}
 use Rattle.iso_state.proofs.Desks.{IsSameSeat, claims-own, seat-kept}
 use Rattle.iso_state.proofs.FactsAlong.{apart-of, debt-of, within-of}
-use Rattle.iso_state.proofs.Steps.{IsOwn, conn-is, is-open, own-desk, own-step, step-stands}
+use Rattle.iso_state.proofs.Steps.{conn-is, own-desk, own-step, step-stands}
 use Rattle.iso_state.specs.Changes.{entered, repaced, stepped, unclaimed}
-use Rattle.iso_state.specs.Stands.{Content, HasPlace, IsDeskOf, Stands, StandsFor, content_of, desk_at, is_claimed, world_of}
+use Rattle.iso_state.specs.Stands.{Content, Stands, StandsFor, content_of, desk_at, is_claimed, world_of}
 use Rattle.iso_state.specs.Steps.{IsReady, is_past}
 use Rattle.iso_state.specs.declared.parts.Parts.{Parts}
 use Rattle.iso_writes.specs.Changing.{is_change}

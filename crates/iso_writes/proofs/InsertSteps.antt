@@ -1,6 +1,6 @@
 -- The parts after an insertion, and after one that was taken back for want of memory.
-use Rattle.std.proofs.Common.{◌≡◌, ◌≤◌, ◌<◌, ◌+◌, ℕ, Bool, true, false, not, ◌&&◌, List, [], ◌∷◌, length, refl, ap, sym, ◌∙◌, arith, subst, Some, None, Option}
-use Rattle.std.specs.Prelude.{count_by, filter, is_none, is_some}
+use Rattle.std.proofs.Common.{◌≡◌, ◌≤◌, ◌<◌, ◌+◌, Bool, true, false, List, length, refl, ap, sym, ◌∙◌, arith, subst, Some}
+use Rattle.std.specs.Prelude.{is_none, is_some}
 use Rattle.std.proofs.lemmas.List.{length-map}
 use Rattle.std.proofs.Math.ListN.{length-set}
 use Rattle.iso_chain.proofs.Kept.{may-insert}
@@ -15,23 +15,22 @@ use Rattle.iso_history.specs.Makers.{by_agent}
 use Rattle.iso_history.specs.Phases.{phase, phase_of}
 use Rattle.iso_history.specs.Requests.{request}
 use Rattle.iso_history.specs.Requests.Outcome.{Gives}
-use Rattle.iso_history.specs.Versions.{next_rid, slots}
+use Rattle.iso_history.specs.Versions.{next_rid}
 use Rattle.iso_history.specs.Writes.{inserts}
 use Rattle.iso_history.specs.Writes.Written.{Done}
 use Rattle.iso_history.specs.declared.entry.Act.TheVariants.{Insert}
 use Rattle.iso_history.specs.declared.entry.Got.{Got}
 use Rattle.iso_locklist.specs.Holding.{LocksAre}
 use Rattle.iso_locklist.specs.Lists.{asked_for}
-use Rattle.iso_locklist.specs.Places.{IsSameLimits, Ledger, line_at}
+use Rattle.iso_locklist.specs.Places.{IsSameLimits, Ledger}
 use Rattle.iso_modes.specs.declared.Mode.TheVariants.{X}
 use Rattle.iso_modes.specs.declared.Term.TheVariants.{Kept}
 use Rattle.iso_queue.specs.Locks.{freed, placed, settled, without_briefs}
 use Rattle.iso_queue.specs.Queues.{is_waiting}
 use Rattle.iso_state.proofs.FactsAlong.{facts-of, kept-of, sound-of, work-there}
 use Rattle.iso_state.proofs.LockReads.{holds-once}
-use Rattle.iso_state.proofs.Steps.{step-stands}
 use Rattle.iso_state.specs.Changes.{entered, relocked}
-use Rattle.iso_state.specs.Stands.{Content, HasPlace, IsLimitedBy, StandsFor, content_of, world_of}
+use Rattle.iso_state.specs.Stands.{Content, HasPlace, StandsFor, content_of, world_of}
 use Rattle.iso_state.specs.Steps.{IsReady, KeepsRoom}
 use Rattle.iso_state.specs.declared.parts.Parts.{Parts}
 use Rattle.iso_types.specs.Head.{row_fits}

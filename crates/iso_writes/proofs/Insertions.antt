@@ -1,12 +1,10 @@
 -- What an insertion that is done says of slots and locks, over a head without an index.
-use Rattle.std.proofs.Common.{◌≡◌, ◌≤◌, ◌<◌, ◌+◌, ℕ, Bool, true, false, not, ◌&&◌, List, [], ◌∷◌, length, refl, ap, sym, ◌∙◌, arith, subst, Some, None, Option}
+use Rattle.std.proofs.Common.{◌≡◌, ◌≤◌, ◌<◌, ◌+◌, Bool, true, false, not, ◌&&◌, List, [], ◌∷◌, length, refl, ap, sym, ◌∙◌, arith, subst, Some, None, Option}
 use Rattle.std.specs.Option.{option_map_or}
-use Rattle.std.specs.Prelude.{count_by, filter, if◌then◌else◌, nat_le, nat_lt}
+use Rattle.std.specs.Prelude.{count_by, filter, if◌then◌else◌, nat_le}
 use Rattle.std.proofs.lemmas.Bool.Decides.{nat_tests}
 use Rattle.iso_history.specs.After.{after}
-use Rattle.iso_history.specs.Facts.{HoldsThere, LockFacts, LocksSound}
-use Rattle.iso_history.specs.Holds.{inherited, inheriting}
-use Rattle.iso_history.specs.Legal.{Runs}
+use Rattle.iso_history.specs.Facts.{HoldsThere, LocksSound}
 use Rattle.iso_history.specs.Makers.{by_agent}
 use Rattle.iso_history.specs.Requests.{is_limited, is_there, request}
 use Rattle.iso_history.specs.Requests.Outcome.{Gives}
@@ -62,7 +60,7 @@ not-full false e = refl
 not-full true e = absurd (cc)
 
 -- no key is inherited
-none-needed : (head : Head) (w : World) (c : Conn) (t : TableId) (row : List Value) → length head.indexes ≡ 0 → key_need head w c t row ≡ 0
+pub none-needed : (head : Head) (w : World) (c : Conn) (t : TableId) (row : List Value) → length head.indexes ≡ 0 → key_need head w c t row ≡ 0
 none-needed head w c t row e = rw (none-of head t e) refl
 
 module _ (head : Head) (w : World) (c : Conn) (t : TableId) (row : List Value) (plain : length head.indexes ≡ 0) (done : inserts head w c t row ≡ Done) where

@@ -3,3 +3,4 @@ pub mod Rows
 pub mod Plain
 pub mod Insertions
 pub mod InsertSteps
+mod Judged

@@ -1,13 +1,13 @@
 -- Over a head without an index a write has no keys.
 use Rattle.std.proofs.Common.{◌≡◌, ℕ, List, [], ◌∷◌, length, refl, ap, sym, ◌∙◌, subst, None}
 use Rattle.std.specs.List.{range_with_len}
-use Rattle.std.specs.Prelude.{filter, map}
+use Rattle.std.specs.Prelude.{map}
 use Rattle.iso_history.specs.After.{after}
 use Rattle.iso_history.specs.Entries.{gained}
-use Rattle.iso_history.specs.Holds.{inherited, inheriting}
+use Rattle.iso_history.specs.Holds.{inheriting}
 use Rattle.iso_history.specs.Makers.{by_agent}
 use Rattle.iso_history.specs.World.{World}
-use Rattle.iso_history.specs.declared.entry.Act.TheVariants.{Insert, Update}
+use Rattle.iso_history.specs.declared.entry.Act.TheVariants.{Update}
 use Rattle.iso_locklist.specs.Holding.{LocksAre}
 use Rattle.iso_locklist.specs.Places.{Ledger}
 use Rattle.iso_queue.specs.Locks.{Request, all_placed, settled, without_briefs}

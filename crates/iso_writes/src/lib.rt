@@ -2,6 +2,11 @@
 #![tactic(auto)]
 
 mod changing;
+mod coming;
+mod judging;
+mod steps;
 mod writing;
 
-pub use writing::{Written, delete, insert, refuse, update};
+pub use coming::Written;
+pub use steps::{delete, insert, update};
+pub use writing::refuse;

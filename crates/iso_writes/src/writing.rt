@@ -15,20 +15,8 @@ use iso_state::{Parts, enter, make_room, place};
 use iso_types::{Conn, Name, Rid, Row, StepFault, TableId};
 use std::alloc::Global;
 
-/// What comes of a write. `Blocked`: another connection's lock on that name is in its way, and it waits; `Escalates`: the
-/// lock of that table was asked for instead; `Refused`: with this SQLCODE; `Full`: the table has all its slots.
-#[derive(Clone, Copy, PartialEq, Eq)]
-pub enum Written {
-    Done,
-    Blocked(Name),
-    TimedOut,
-    Escalates(TableId),
-    Refused(i32),
-    Full,
-}
-
 /// Makes the entry of a deletion that is done.
-pub fn delete(parts: &mut Parts, conn: Conn, table: TableId, rid: Rid) -> Result<(), StepFault>
+pub fn make_delete(parts: &mut Parts, conn: Conn, table: TableId, rid: Rid) -> Result<(), StepFault>
     requires stands { StandsFor parts.old }
     requires open { (world_of parts.old).pace.finished ≡ false }
     requires conn { conn.0 < length parts.old.head.conns }
@@ -44,7 +32,7 @@ pub fn delete(parts: &mut Parts, conn: Conn, table: TableId, rid: Rid) -> Result
     make_room(parts, 2)?;
     write_deleted(parts, conn, table, rid)?;
     parts.locks.settle(conn, None);
-    parts.reserved += 1;
+    parts.reserved += 1; // the undo of the deletion
     let who = Who::Agent(conn);
     let act = Act::Delete { table, rid };
     enter(parts, conn, Entry { who, act });
@@ -52,7 +40,7 @@ pub fn delete(parts: &mut Parts, conn: Conn, table: TableId, rid: Rid) -> Result
 }
 
 /// Makes the entry of an update that is done.
-pub fn update(
+pub fn make_update(
     alloc: Global,
     parts: &mut Parts,
     conn: Conn,
@@ -78,7 +66,7 @@ pub fn update(
     let told = copy_of(alloc, row)?;
     write_updated(alloc, parts, conn, table, rid, row)?;
     parts.locks.settle(conn, None);
-    parts.reserved += 1;
+    parts.reserved += 1; // the undo of the update
     let who = Who::Agent(conn);
     let act = Act::Update {
         table,
@@ -91,7 +79,7 @@ pub fn update(
 
 /// Makes the entry of an insertion that is done: the row has the table's next slot, and the connection X on it. After a fault
 /// the state stands for the same history, and its lock list for the same holds and waits.
-pub fn insert(
+pub fn make_insert(
     alloc: Global,
     parts: &mut Parts,
     conn: Conn,
@@ -125,7 +113,7 @@ pub fn insert(
         }
     }
     parts.locks.settle(conn, Some(name));
-    parts.reserved += 1;
+    parts.reserved += 1; // the undo of the insertion
     let who = Who::Agent(conn);
     let act = Act::Insert {
         table,

@@ -1,4 +1,4 @@
-use Rattle.std.proofs.Common.{◌≡◌, ◌∙◌, ℕ, length, ap}
+use Rattle.std.proofs.Common.{◌∙◌, ℕ, length, ap}
 use Rattle.std.specs.Prelude.{unwrap_or}
 use Rattle.iso_chain.proofs.Past.{past-is}
 use Rattle.iso_log.specs.Journal.{is_past}

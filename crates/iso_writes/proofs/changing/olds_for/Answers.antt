@@ -1,4 +1,4 @@
-use Rattle.std.proofs.Common.{◌≡◌, ◌≤◌, ◌∙◌, ℕ, List, ap, length, subst, sym}
+use Rattle.std.proofs.Common.{◌≤◌, ◌∙◌, ℕ, List, ap, length, subst, sym}
 use Rattle.iso_state.specs.Stands.{content_of}
 use Rattle.iso_types.specs.declared.value.Value.{Value}
 use Rattle.iso_writes.proofs.Rows.{new-wide, row-short}

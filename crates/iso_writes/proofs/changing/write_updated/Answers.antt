@@ -1,4 +1,4 @@
-use Rattle.std.proofs.Common.{◌≤◌, ◌<◌, arith}
+use Rattle.std.proofs.Common.{arith}
 use Rattle.iso_chain.proofs.Asks.{has-unit}
 use Rattle.iso_history.specs.Units.{unit_of}
 use Rattle.iso_state.specs.Stands.{content_of, world_of}

@@ -1,11 +1,10 @@
-use Rattle.std.proofs.Common.{◌≡◌, ◌≤◌, ◌+◌, ◌∙◌, List, ap, arith, length, refl, sym, subst, Some, None}
+use Rattle.std.proofs.Common.{◌≡◌, ◌+◌, ◌∙◌, List, ap, arith, refl, sym, subst, Some}
 use Rattle.std.proofs.Math.ListN.{length-set}
 use Rattle.iso_chain.proofs.Kept.{may-update}
 use Rattle.iso_chain.proofs.Write.{update-chained}
 use Rattle.iso_chain.specs.Writes.{written}
 use Rattle.iso_history.specs.Legal.{ByAgent}
 use Rattle.iso_history.specs.Makers.{by_agent}
-use Rattle.iso_history.specs.declared.entry.Act.{Act}
 use Rattle.iso_history.specs.declared.entry.Act.TheVariants.{Update}
 use Rattle.iso_locklist.specs.Holding.{LocksAre}
 use Rattle.iso_locklist.specs.Places.{IsSameLimits, Ledger}
@@ -16,7 +15,7 @@ use Rattle.iso_state.specs.Stands.{Content, content_of, world_of}
 use Rattle.iso_types.specs.declared.value.Value.{Value}
 use Rattle.iso_writes.proofs.ChangeSteps.{change-allowed, change-full, change-place, lt-now, plain-now}
 use Rattle.iso_writes.proofs.Plain.{entries-kept, update-holds}
-use Rattle.iso_writes.proofs.writing.update.Goals as goal
+use Rattle.iso_writes.proofs.writing.make_update.Goals as goal
 
 pub returns-clause-stands : goal.returns-clause-stands
 returns-clause-stands c =

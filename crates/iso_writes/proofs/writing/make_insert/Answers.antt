@@ -1,5 +1,5 @@
-use Rattle.std.proofs.Common.{◌≡◌, ◌≤◌, ◌<◌, ◌+◌, ◌∙◌, ℕ, List, ap, arith, length, refl, sym, subst, Some, None, Option}
-use Rattle.std.specs.Prelude.{IsSome, ◌≢◌, false}
+use Rattle.std.proofs.Common.{◌≡◌, ◌<◌, ◌+◌, ◌∙◌, List, ap, arith, refl, sym, subst, Some}
+use Rattle.std.specs.Prelude.{IsSome}
 use Rattle.iso_chain.proofs.Asks.{has-unit}
 use Rattle.iso_chain.specs.Stands.{Chained}
 use Rattle.iso_chain.specs.Writes.{inserted}
@@ -8,9 +8,6 @@ use Rattle.iso_history.specs.Legal.{ByAgent}
 use Rattle.iso_history.specs.Makers.{by_agent}
 use Rattle.iso_history.specs.Units.{unit_of}
 use Rattle.iso_history.specs.Versions.{next_rid}
-use Rattle.iso_history.specs.Writes.{inserts}
-use Rattle.iso_history.specs.Writes.Written.{Done}
-use Rattle.iso_history.specs.declared.entry.Act.{Act}
 use Rattle.iso_history.specs.declared.entry.Act.TheVariants.{Insert}
 use Rattle.iso_locklist.specs.Holding.{LocksAre}
 use Rattle.iso_locklist.specs.Lists.{asked_for}
@@ -19,7 +16,7 @@ use Rattle.iso_modes.specs.declared.Mode.TheVariants.{X}
 use Rattle.iso_modes.specs.declared.Term.TheVariants.{Kept}
 use Rattle.iso_queue.specs.Locks.{placed, settled, without_briefs}
 use Rattle.iso_state.proofs.ByKind.{fault-was}
-use Rattle.iso_state.proofs.FactsAlong.{debt-small, sound-of, unit-of, work-there}
+use Rattle.iso_state.proofs.FactsAlong.{debt-small, unit-of, work-there}
 use Rattle.iso_state.proofs.Steps.{limits-after}
 use Rattle.iso_state.specs.Changes.{entered, relocked}
 use Rattle.iso_state.specs.Stands.{Content, content_of, world_of}
@@ -29,7 +26,7 @@ use Rattle.iso_types.specs.declared.value.Value.{Value}
 use Rattle.iso_uow.specs.Book.{debt_of, work_at}
 use Rattle.iso_writes.proofs.ChangeSteps.{change-full}
 use Rattle.iso_writes.proofs.InsertSteps.{granted-at, insert-back, insert-place, relocked-place, table-there}
-use Rattle.iso_writes.proofs.writing.insert.Goals as goal
+use Rattle.iso_writes.proofs.writing.make_insert.Goals as goal
 
 pub next_slot-rid-requires-clause-table : goal.next_slot-rid-requires-clause-table
 next_slot-rid-requires-clause-table c =

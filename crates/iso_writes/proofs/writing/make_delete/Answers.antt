@@ -1,11 +1,10 @@
-use Rattle.std.proofs.Common.{◌≡◌, ◌≤◌, ◌+◌, ◌∙◌, ap, arith, length, refl, sym, subst, None}
+use Rattle.std.proofs.Common.{◌≡◌, ◌+◌, ◌∙◌, ap, arith, refl, sym, subst, None}
 use Rattle.std.proofs.Math.ListN.{length-set}
 use Rattle.iso_chain.proofs.Kept.{may-delete}
 use Rattle.iso_chain.proofs.Write.{delete-chained}
 use Rattle.iso_chain.specs.Writes.{written}
 use Rattle.iso_history.specs.Legal.{ByAgent}
 use Rattle.iso_history.specs.Makers.{by_agent}
-use Rattle.iso_history.specs.declared.entry.Act.{Act}
 use Rattle.iso_history.specs.declared.entry.Act.TheVariants.{Delete}
 use Rattle.iso_locklist.specs.Holding.{LocksAre}
 use Rattle.iso_locklist.specs.Places.{IsSameLimits, Ledger}
@@ -14,7 +13,7 @@ use Rattle.iso_state.proofs.FactsAlong.{kept-of, log_sound-of, sound-of, work-th
 use Rattle.iso_state.specs.Changes.{entered}
 use Rattle.iso_state.specs.Stands.{Content, content_of, world_of}
 use Rattle.iso_writes.proofs.ChangeSteps.{change-allowed, change-full, change-place, lt-now}
-use Rattle.iso_writes.proofs.writing.delete.Goals as goal
+use Rattle.iso_writes.proofs.writing.make_delete.Goals as goal
 
 pub returns-clause-stands : goal.returns-clause-stands
 returns-clause-stands c =

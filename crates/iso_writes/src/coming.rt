@@ -1,0 +1,42 @@
+//! What comes of a write: what its judging finds, and what its step answers.
+ghost use Rattle.std.specs.Prelude.{◌≡◌, true};
+ghost use Rattle.iso_writes.specs.Answers.{comes_at_limit, limited as limited_by};
+
+use iso_locks::Answer;
+use iso_types::{Name, TableId};
+
+/// What comes of a write. `Blocked`: another connection's lock on that name is in its way, and it waits; `Escalates`: the
+/// lock of that table was asked for instead; `Refused`: with this SQLCODE; `Full`: the table has all its slots.
+#[derive(Clone, Copy, PartialEq, Eq)]
+pub enum Written {
+    Done,
+    Blocked(Name),
+    TimedOut,
+    Escalates(TableId),
+    Refused(i32),
+    Full,
+}
+
+/// What an insertion comes to before it is made: it can be done, or its table has all its slots, its need is at a lock limit,
+/// or it is past the log.
+#[derive(Clone, Copy, PartialEq, Eq)]
+pub enum Coming {
+    Done,
+    Full,
+    AtLimit,
+    PastLog,
+}
+
+/// The answer to a write at the lock limit.
+pub fn limited(answer: Answer) -> Written
+    requires { comes_at_limit answer ≡ true }
+    ensures { result ≡ limited_by answer }
+{
+    match answer {
+        Answer::Escalates(table) => Written::Escalates(table),
+        Answer::TimedOut => Written::TimedOut,
+        Answer::Refused(code) => Written::Refused(code),
+        Answer::Done => unreachable!(),
+        Answer::Queued => unreachable!(),
+    }
+}

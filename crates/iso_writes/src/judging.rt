@@ -1,0 +1,72 @@
+//! What a write comes to before anything is written.
+ghost use Rattle.std.specs.Prelude.{◌≡◌, ◌<◌, length, true, nat_le};
+ghost use Rattle.iso_history.specs.Versions.{next_rid, slots};
+ghost use Rattle.iso_history.specs.Writes.{deletes, inserts, row_need as need_of_row, updates};
+ghost use Rattle.iso_types.specs.Head.{row_fits};
+ghost use Rattle.iso_state.specs.Stands.{StandsFor, world_of};
+ghost use Rattle.iso_writes.specs.Answers.{coming_as, past_or_done};
+
+use crate::changing::{is_log_full, next_slot};
+use crate::coming::Coming;
+use iso_modes::Mode;
+use iso_state::{Parts, covered, is_limited};
+use iso_types::{Conn, Name, Rid, Row, TableId};
+
+/// Whether a deletion is past the log. It needs no lock, so that it is at no limit.
+pub fn is_delete_past(parts: &Parts, conn: Conn) -> bool
+    requires stands { StandsFor parts.now }
+    ensures { past_or_done result ≡ deletes parts.now.head (world_of parts.now) conn }
+{
+    is_log_full(parts)
+}
+
+/// Whether an update is past the log. Over a head without an index it needs no lock, and has no key that could be in its way.
+pub fn is_update_past(parts: &Parts, conn: Conn, table: TableId, rid: Rid, row: &Row) -> bool
+    requires stands { StandsFor parts.now }
+    requires plain { length parts.now.head.indexes ≡ 0 } // keys come next
+    ensures { past_or_done result ≡ updates parts.now.head (world_of parts.now) conn table rid row.now }
+{
+    is_log_full(parts)
+}
+
+/// Whether the table has all its slots.
+fn is_table_full(parts: &Parts, table: TableId) -> bool
+    requires stands { StandsFor parts.now }
+    requires table { table.0 < length parts.now.tables }
+    ensures { result ≡ nat_le 65536 (slots (world_of parts.now) table) }
+{
+    next_slot(parts, table).0 >= 65536
+}
+
+/// The lock slots that the table's next row needs: none where the connection's table lock covers X on it.
+fn row_need(parts: &Parts, conn: Conn, table: TableId) -> u32
+    requires stands { StandsFor parts.now }
+    requires table { table.0 < length parts.now.tables }
+    ensures { result ≡ need_of_row parts.now.head (world_of parts.now) conn table (next_rid (world_of parts.now) table) }
+{
+    let row = Name::Row(table, next_slot(parts, table));
+    if covered(parts, conn, &row, Mode::X) {
+        0
+    } else {
+        1
+    }
+}
+
+/// What an insertion of the row comes to.
+pub fn judge_insert(parts: &Parts, conn: Conn, table: TableId, row: &Row) -> Coming
+    requires stands { StandsFor parts.now }
+    requires conn { conn.0 < length parts.now.head.conns }
+    requires row { row_fits parts.now.head table row.now ≡ true }
+    requires plain { length parts.now.head.indexes ≡ 0 } // keys come next
+    ensures { coming_as result ≡ inserts parts.now.head (world_of parts.now) conn table row.now }
+{
+    if is_table_full(parts, table) {
+        Coming::Full
+    } else if is_limited(parts, conn, row_need(parts, conn, table)) {
+        Coming::AtLimit
+    } else if is_log_full(parts) {
+        Coming::PastLog
+    } else {
+        Coming::Done
+    }
+}
