@@ -4,3 +4,5 @@ pub mod Walks
 pub mod Stills
 pub mod Rolls
 pub mod Closes
+pub mod Begins
+pub mod Dispatches

@@ -1,7 +1,9 @@
 -- What the steps of the dispatcher answer.
 use Rattle.std.specs.Option.{option_map_or}
-use Rattle.std.specs.Prelude.{Bool, true, false, List, [], ◌∷◌, if◌then◌else◌}
+use Rattle.std.specs.Prelude.{Bool, ℕ, true, false, ◌||◌, List, [], ◌∷◌, if◌then◌else◌, Option, Some, None}
 use Rattle.iso_history.specs.Makers.{by_dispatcher}
+use Rattle.iso_history.specs.Outcomes.{statement_step}
+use Rattle.iso_history.specs.declared.entry.Act.{Act}
 use Rattle.iso_history.specs.declared.entry.Act.TheVariants.{Close, Finish}
 use Rattle.iso_history.specs.declared.entry.Entry.{Entry}
 use Rattle.iso_pace.specs.declared.closing.Closing.{Closing}
@@ -46,3 +48,23 @@ abbrev pub closing : Closing → List Entry
 closing (One c) = by_dispatcher (Close c) ∷ []
 closing Closing.NotQuiet = []
 closing Finished = by_dispatcher Finish ∷ []
+
+-- the step that takes a statement's line: none after a Stopped; one without `&` is taken only in quiet
+abbrev pub line_step : Head → World → ℕ → Conn → Bool → Option Act
+line_step head w line c free =
+    if w.pace.stopped then None else if free || is_quiet head w then statement_step head w line c else None
+
+-- what is answered then
+abbrev pub answered : Option Act → Paced
+answered None = NotQuiet
+answered (Some (Act.Busy line c)) = Busy
+answered (Some _) = Done
+
+-- a statement's line
+abbrev pub dispatched : Head → World → ℕ → Conn → Bool → Paced
+dispatched head w line c free = if w.pace.stopped then Stopping else answered (line_step head w line c free)
+
+-- what is recorded then
+abbrev pub taken : Option Act → List Entry
+taken None = []
+taken (Some a) = by_dispatcher a ∷ []

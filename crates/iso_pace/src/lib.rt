@@ -4,10 +4,12 @@
 
 mod closing;
 mod cycles;
+mod dispatching;
 mod lines;
 mod resting;
 
 pub use closing::{Closing, close_next};
 pub use cycles::cyclic;
+pub use dispatching::dispatch;
 pub use lines::{Paced, expire, snapshot};
 pub use resting::{able, quiet};

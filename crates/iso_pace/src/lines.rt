@@ -50,7 +50,7 @@ fn mark(parts: &mut Parts, entry: Entry)
 }
 
 /// Passes over the line of a connection that waits.
-fn pass_over(parts: &mut Parts, line: u32, conn: Conn) -> Result<(), StepFault>
+pub(crate) fn pass_over(parts: &mut Parts, line: u32, conn: Conn) -> Result<(), StepFault>
     requires stands { StandsFor parts.old }
     requires open { (world_of parts.old).pace.finished ≡ false }
     requires plain { length parts.old.head.indexes ≡ 0 } // keys come next
