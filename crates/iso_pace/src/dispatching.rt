@@ -35,7 +35,12 @@ fn run(parts: &mut Parts, line: u32, conn: Conn)
         start: parts.log.len(),
         ..desk_of(parts, conn)
     };
-    move_to(parts, conn, desk, of_dispatcher(Act::Dispatch { line, conn }));
+    move_to(
+        parts,
+        conn,
+        desk,
+        of_dispatcher(Act::Dispatch { line, conn }),
+    );
 }
 
 /// Begins a statement in a unit of work that is open.
