@@ -1,4 +1,4 @@
--- Row 12: legal, scheduled and whole, by computing.
+-- A reader behind a conversion: legal, scheduled and whole, by computing.
 use Rattle.std.proofs.Common.{◌≡◌, ℕ, Bool, true, false, List, [], ◌∷◌, refl, Some, None, length, take, drop, pos, negsuc}
 use Rattle.std.specs.List.{list_all}
 use Rattle.iso_types.specs.declared.value.Value.{Value}

@@ -1,4 +1,4 @@
--- Row 18: legal, scheduled and whole, by computing.
+-- Requests that may not wait, and a wait that expires: legal, scheduled and whole, by computing.
 use Rattle.std.proofs.Common.{◌≡◌, ℕ, Bool, true, false, List, [], ◌∷◌, refl, Some, None, length, take, drop, pos, negsuc}
 use Rattle.std.specs.List.{list_all}
 use Rattle.iso_types.specs.declared.value.Value.{Value}
@@ -71,7 +71,7 @@ head = heading (config true 1024 60 65536 65536)
     (conn_def Cs ∷ conn_def Cs ∷ [])
 
 abbrev statement_9 : Statement
-statement_9 = Statement.Delete (table 0) (c.Compare 0 Eq (Int (pos 1))) None
+statement_9 = Statement.Update (table 0) (sets_of (assign 1 (Expr.Literal (Int (pos 1))) ∷ [])) (c.Compare 0 Eq (Int (pos 1))) None
 
 abbrev cond_9 : Condition
 cond_9 = (c.Compare 0 Eq (Int (pos 1)))
@@ -84,16 +84,46 @@ unfolding mode_number mode_eq goes_with compatible joined at_least covers escala
 plan_9 = ap (λ x. path_by (index 0) x (first_path head cond_9 [])) (compare-bounds 0 0 Eq (Int (pos 1)))
 
 abbrev statement_10 : Statement
-statement_10 = Statement.Insert (table 0) ((Int (pos 1)) ∷ (Int (pos 5)) ∷ [])
+statement_10 = SetWait false
 
 abbrev statement_11 : Statement
-statement_11 = Statement.Commit
+statement_11 = Statement.Update (table 0) (sets_of (assign 1 (Expr.Literal (Int (pos 2))) ∷ [])) (c.Compare 0 Eq (Int (pos 1))) None
+
+abbrev cond_11 : Condition
+cond_11 = (c.Compare 0 Eq (Int (pos 1)))
+
+truth_11 : (row : List Value) → truth row cond_11 ≡ compared Eq (value_at row 0) (Int (pos 1))
+truth_11 row = compare-truth row 0 Eq (Int (pos 1))
+
+plan_11 : plan_of head (table 0) cond_11 ≡ (Path.Index (index 0) (range (Some (bound (Int (pos 1)) true)) (Some (bound (Int (pos 1)) true))))
+unfolding mode_number mode_eq goes_with compatible joined at_least covers escalated value_cmp value_eq value_lt name_eq is_hold_of opposes stands_before world_from world is_table_mode is_row_mode table_mode
+plan_11 = ap (λ x. path_by (index 0) x (first_path head cond_11 [])) (compare-bounds 0 0 Eq (Int (pos 1)))
+
+abbrev statement_13 : Statement
+statement_13 = SetWait true
+
+abbrev statement_14 : Statement
+statement_14 = Statement.Update (table 0) (sets_of (assign 1 (Expr.Literal (Int (pos 2))) ∷ [])) (c.Compare 0 Eq (Int (pos 1))) None
+
+abbrev cond_14 : Condition
+cond_14 = (c.Compare 0 Eq (Int (pos 1)))
+
+truth_14 : (row : List Value) → truth row cond_14 ≡ compared Eq (value_at row 0) (Int (pos 1))
+truth_14 row = compare-truth row 0 Eq (Int (pos 1))
+
+plan_14 : plan_of head (table 0) cond_14 ≡ (Path.Index (index 0) (range (Some (bound (Int (pos 1)) true)) (Some (bound (Int (pos 1)) true))))
+unfolding mode_number mode_eq goes_with compatible joined at_least covers escalated value_cmp value_eq value_lt name_eq is_hold_of opposes stands_before world_from world is_table_mode is_row_mode table_mode
+plan_14 = ap (λ x. path_by (index 0) x (first_path head cond_14 [])) (compare-bounds 0 0 Eq (Int (pos 1)))
 
 abbrev lines : List Line
 lines =
-    (line 9 (Some (conn 0)) false (What.Statement (Statement.Delete (table 0) (c.Compare 0 Eq (Int (pos 1))) None))
-    ∷ line 10 (Some (conn 1)) false (What.Statement (Statement.Insert (table 0) ((Int (pos 1)) ∷ (Int (pos 5)) ∷ [])))
-    ∷ line 11 (Some (conn 0)) false (What.Statement (Statement.Commit)) ∷ [])
+    (line 9 (Some (conn 0)) false (What.Statement (Statement.Update (table 0) (sets_of (assign 1 (Expr.Literal (Int (pos 1))) ∷ [])) (c.Compare 0 Eq (Int (pos 1))) None))
+    ∷ line 10 (Some (conn 1)) false (What.Statement (SetWait false))
+    ∷ line 11 (Some (conn 1)) false (What.Statement (Statement.Update (table 0) (sets_of (assign 1 (Expr.Literal (Int (pos 2))) ∷ [])) (c.Compare 0 Eq (Int (pos 1))) None))
+    ∷ line 12 (Some (conn 1)) false What.Expire
+    ∷ line 13 (Some (conn 1)) false (What.Statement (SetWait true))
+    ∷ line 14 (Some (conn 1)) false (What.Statement (Statement.Update (table 0) (sets_of (assign 1 (Expr.Literal (Int (pos 2))) ∷ [])) (c.Compare 0 Eq (Int (pos 1))) None))
+    ∷ line 15 (Some (conn 1)) false What.Expire ∷ [])
 
 abbrev e_0 : Entry
 e_0 = dispatcher (Dispatch 9 (conn 0))
@@ -114,7 +144,7 @@ abbrev e_5 : Entry
 e_5 = agent 0 (Lock (Row (table 0) (rid 0)) X Kept Asked Got.Granted)
 
 abbrev e_6 : Entry
-e_6 = agent 0 (Delete (table 0) (rid 0))
+e_6 = agent 0 (Update (table 0) (rid 0) ((Int (pos 1)) ∷ (Int (pos 1)) ∷ []))
 
 abbrev e_7 : Entry
 e_7 = agent 0 (Reply (pos 0) 1 [])
@@ -123,46 +153,106 @@ abbrev e_8 : Entry
 e_8 = dispatcher (Dispatch 10 (conn 1))
 
 abbrev e_9 : Entry
-e_9 = agent 1 (Lock (Table (table 0)) Ix Kept Asked Got.Granted)
+e_9 = agent 1 (Set Cs false)
 
 abbrev e_10 : Entry
-e_10 = agent 1 (Lock (Row (table 0) (rid 0)) Ns Brief Blocked (Got.Queued Ns))
+e_10 = agent 1 (Reply (pos 0) 0 [])
 
 abbrev e_11 : Entry
-e_11 = dispatcher (Dispatch 11 (conn 0))
+e_11 = dispatcher (Dispatch 11 (conn 1))
 
 abbrev e_12 : Entry
-e_12 = agent 0 (Commit)
+e_12 = agent 1 (Lock (Table (table 0)) Ix Kept Asked Got.Granted)
 
 abbrev e_13 : Entry
-e_13 = agent 1 (Claim)
+e_13 = agent 1 (Next (index 0) (range (Some (bound (Int (pos 1)) true)) (Some (bound (Int (pos 1)) true))) None false (At (Int (pos 1)) (rid 0)))
 
 abbrev e_14 : Entry
-e_14 = agent 1 (Insert (table 0) (rid 2) ((Int (pos 1)) ∷ (Int (pos 5)) ∷ []))
+e_14 = agent 1 (Look (table 0) (rid 0) Alter Got.TimedOut)
 
 abbrev e_15 : Entry
-e_15 = agent 1 (Reply (pos 0) 1 [])
+e_15 = agent 1 (Rollback (negsuc 910) 68)
 
 abbrev e_16 : Entry
-e_16 = dispatcher (Close (conn 0))
+e_16 = dispatcher (Expire 12 (conn 1) false)
 
 abbrev e_17 : Entry
-e_17 = agent 0 (Act.Ended)
+e_17 = dispatcher (Dispatch 13 (conn 1))
 
 abbrev e_18 : Entry
-e_18 = dispatcher (Close (conn 1))
+e_18 = agent 1 (Set Cs true)
 
 abbrev e_19 : Entry
-e_19 = agent 1 (Undo 1)
+e_19 = agent 1 (Reply (pos 0) 0 [])
 
 abbrev e_20 : Entry
-e_20 = agent 1 (Act.Ended)
+e_20 = dispatcher (Dispatch 14 (conn 1))
 
 abbrev e_21 : Entry
-e_21 = dispatcher (Finish)
+e_21 = agent 1 (Lock (Table (table 0)) Ix Kept Asked Got.Granted)
+
+abbrev e_22 : Entry
+e_22 = agent 1 (Next (index 0) (range (Some (bound (Int (pos 1)) true)) (Some (bound (Int (pos 1)) true))) None false (At (Int (pos 1)) (rid 0)))
+
+abbrev e_23 : Entry
+e_23 = agent 1 (Look (table 0) (rid 0) Alter (Got.Queued U))
+
+abbrev e_24 : Entry
+e_24 = dispatcher (Expire 15 (conn 1) true)
+
+abbrev e_25 : Entry
+e_25 = agent 1 (Rollback (negsuc 910) 68)
+
+abbrev e_26 : Entry
+e_26 = dispatcher (Close (conn 0))
+
+abbrev e_27 : Entry
+e_27 = agent 0 (Undo 0)
+
+abbrev e_28 : Entry
+e_28 = agent 0 (Act.Ended)
+
+abbrev e_29 : Entry
+e_29 = dispatcher (Close (conn 1))
+
+abbrev e_30 : Entry
+e_30 = agent 1 (Act.Ended)
+
+abbrev e_31 : Entry
+e_31 = dispatcher (Finish)
+
+abbrev rest_32 : List Entry
+rest_32 = []
+
+abbrev rest_31 : List Entry
+rest_31 = e_31 ∷ rest_32
+
+abbrev rest_30 : List Entry
+rest_30 = e_30 ∷ rest_31
+
+abbrev rest_29 : List Entry
+rest_29 = e_29 ∷ rest_30
+
+abbrev rest_28 : List Entry
+rest_28 = e_28 ∷ rest_29
+
+abbrev rest_27 : List Entry
+rest_27 = e_27 ∷ rest_28
+
+abbrev rest_26 : List Entry
+rest_26 = e_26 ∷ rest_27
+
+abbrev rest_25 : List Entry
+rest_25 = e_25 ∷ rest_26
+
+abbrev rest_24 : List Entry
+rest_24 = e_24 ∷ rest_25
+
+abbrev rest_23 : List Entry
+rest_23 = e_23 ∷ rest_24
 
 abbrev rest_22 : List Entry
-rest_22 = []
+rest_22 = e_22 ∷ rest_23
 
 abbrev rest_21 : List Entry
 rest_21 = e_21 ∷ rest_22
@@ -299,40 +389,107 @@ w_21 = after head w_20 e_20
 abbrev w_22 : World
 w_22 = after head w_21 e_21
 
+abbrev w_23 : World
+w_23 = after head w_22 e_22
+
+abbrev w_24 : World
+w_24 = after head w_23 e_23
+
+abbrev w_25 : World
+w_25 = after head w_24 e_24
+
+abbrev w_26 : World
+w_26 = after head w_25 e_25
+
+abbrev w_27 : World
+w_27 = after head w_26 e_26
+
+abbrev w_28 : World
+w_28 = after head w_27 e_27
+
+abbrev w_29 : World
+w_29 = after head w_28 e_28
+
+abbrev w_30 : World
+w_30 = after head w_29 e_29
+
+abbrev w_31 : World
+w_31 = after head w_30 e_30
+
+abbrev w_32 : World
+w_32 = after head w_31 e_31
+
 abbrev es : List Entry
 es = rest_0
 
 ground : Ground head es
 unfolding mode_number mode_eq goes_with compatible joined at_least covers escalated value_cmp value_eq value_lt name_eq is_hold_of opposes stands_before world_from world is_table_mode is_row_mode table_mode GroundFrom Ground
-ground = ((refl, refl, (refl, refl, refl)), ((refl, refl, (refl, ((refl, refl), (refl, refl, refl)))), ((refl, refl, (refl, ((refl, refl), refl, refl))), ((refl, refl, (refl, ((refl, refl), refl, refl))), ((refl, refl, (refl, ((refl, refl), refl, refl))), ((refl, refl, (refl, ((refl, refl), (refl, refl, refl)))), ((refl, refl, (refl, ((refl, refl), refl, refl))), ((refl, refl, (refl, (refl, refl))), ((refl, refl, (refl, refl, refl)), ((refl, refl, (refl, ((refl, refl), (refl, refl, refl)))), ((refl, refl, (refl, ((refl, refl), (refl, refl, refl, refl)))), ((refl, refl, (refl, refl, refl)), ((refl, refl, (refl, (refl, refl))), ((refl, refl, (refl, refl)), ((refl, refl, (refl, ((refl, refl), refl, refl, refl, refl))), ((refl, refl, (refl, (refl, refl))), ((refl, refl, (refl, refl)), ((refl, refl, (refl, (refl, refl))), ((refl, refl, (refl, refl)), ((refl, refl, (refl, (refl, refl))), ((refl, refl, (refl, (refl, refl))), ((refl, refl, refl), tt))))))))))))))))))))))
+ground = ((refl, refl, (refl, refl, refl)), ((refl, refl, (refl, ((refl, refl), (refl, refl, refl)))), ((refl, refl, (refl, ((refl, refl), refl, refl))), ((refl, refl, (refl, ((refl, refl), refl, refl))), ((refl, refl, (refl, ((refl, refl), refl, refl))), ((refl, refl, (refl, ((refl, refl), (refl, refl, refl)))), ((refl, refl, (refl, ((refl, refl), refl, refl, refl))), ((refl, refl, (refl, (refl, refl))), ((refl, refl, (refl, refl, refl)), ((refl, refl, (refl, (refl, refl))), ((refl, refl, (refl, (refl, refl))), ((refl, refl, (refl, refl, refl)), ((refl, refl, (refl, ((refl, refl), (refl, refl, refl)))), ((refl, refl, (refl, ((refl, refl), refl, refl))), ((refl, refl, (refl, ((refl, refl), refl, refl))), ((refl, refl, (refl, ((refl, refl), refl))), ((refl, refl, (refl, refl, refl, refl)), ((refl, refl, (refl, refl, refl)), ((refl, refl, (refl, (refl, refl))), ((refl, refl, (refl, (refl, refl))), ((refl, refl, (refl, refl, refl)), ((refl, refl, (refl, ((refl, refl), (refl, refl, refl)))), ((refl, refl, (refl, ((refl, refl), refl, refl))), ((refl, refl, (refl, ((refl, refl), refl, refl))), ((refl, refl, (refl, refl, refl, refl)), ((refl, refl, (refl, ((refl, refl), refl))), ((refl, refl, (refl, refl)), ((refl, refl, (refl, (refl, refl))), ((refl, refl, (refl, (refl, refl))), ((refl, refl, (refl, refl)), ((refl, refl, (refl, (refl, refl))), ((refl, refl, refl), tt))))))))))))))))))))))))))))))))
 
 abbrev o0_1 : Point
-o0_1 = record { statement = statement_9; columns = []; floor = 0; left = (Asks (Table (table 0)) Ix ∷ IndexScan (record { table = table 0; want = Alter; index = index 0; column = 0; range = range (Some (bound (Int (pos 1)) true)) (Some (bound (Int (pos 1)) true)); guarded = false }) None ∷ Changes (table 0) ∷ Answer ∷ []); kept = Found [] }
+o0_1 = record { statement = statement_9; columns = (updated_columns head statement_9); floor = 0; left = (Asks (Table (table 0)) Ix ∷ IndexScan (record { table = table 0; want = Alter; index = index 0; column = 0; range = range (Some (bound (Int (pos 1)) true)) (Some (bound (Int (pos 1)) true)); guarded = false }) None ∷ Changes (table 0) ∷ Answer ∷ []); kept = Found [] }
 
 abbrev o0_2 : Point
-o0_2 = record { statement = statement_9; columns = []; floor = 0; left = (IndexScan (record { table = table 0; want = Alter; index = index 0; column = 0; range = range (Some (bound (Int (pos 1)) true)) (Some (bound (Int (pos 1)) true)); guarded = false }) None ∷ Changes (table 0) ∷ Answer ∷ []); kept = Found [] }
+o0_2 = record { statement = statement_9; columns = (updated_columns head statement_9); floor = 0; left = (IndexScan (record { table = table 0; want = Alter; index = index 0; column = 0; range = range (Some (bound (Int (pos 1)) true)) (Some (bound (Int (pos 1)) true)); guarded = false }) None ∷ Changes (table 0) ∷ Answer ∷ []); kept = Found [] }
 
 abbrev o0_3 : Point
-o0_3 = record { statement = statement_9; columns = []; floor = 0; left = (EntryLook (record { table = table 0; want = Alter; index = index 0; column = 0; range = range (Some (bound (Int (pos 1)) true)) (Some (bound (Int (pos 1)) true)); guarded = false }) (Int (pos 1)) (rid 0) ∷ Changes (table 0) ∷ Answer ∷ []); kept = Found [] }
+o0_3 = record { statement = statement_9; columns = (updated_columns head statement_9); floor = 0; left = (EntryLook (record { table = table 0; want = Alter; index = index 0; column = 0; range = range (Some (bound (Int (pos 1)) true)) (Some (bound (Int (pos 1)) true)); guarded = false }) (Int (pos 1)) (rid 0) ∷ Changes (table 0) ∷ Answer ∷ []); kept = Found [] }
 
 abbrev o0_4 : Point
-o0_4 = record { statement = statement_9; columns = []; floor = 0; left = (IndexScan (record { table = table 0; want = Alter; index = index 0; column = 0; range = range (Some (bound (Int (pos 1)) true)) (Some (bound (Int (pos 1)) true)); guarded = false }) (Some ((Int (pos 1)), rid 0)) ∷ Changes (table 0) ∷ Answer ∷ []); kept = Found ((rid 0, ((Int (pos 1)) ∷ (Int (pos 100)) ∷ [])) ∷ []) }
+o0_4 = record { statement = statement_9; columns = (updated_columns head statement_9); floor = 0; left = (IndexScan (record { table = table 0; want = Alter; index = index 0; column = 0; range = range (Some (bound (Int (pos 1)) true)) (Some (bound (Int (pos 1)) true)); guarded = false }) (Some ((Int (pos 1)), rid 0)) ∷ Changes (table 0) ∷ Answer ∷ []); kept = Found ((rid 0, ((Int (pos 1)) ∷ (Int (pos 100)) ∷ [])) ∷ []) }
 
 abbrev o0_5 : Point
-o0_5 = record { statement = statement_9; columns = []; floor = 0; left = (Asks (Row (table 0) (rid 0)) X ∷ RowDelete (table 0) (rid 0) ∷ Answer ∷ []); kept = Found ((rid 0, ((Int (pos 1)) ∷ (Int (pos 100)) ∷ [])) ∷ []) }
+o0_5 = record { statement = statement_9; columns = (updated_columns head statement_9); floor = 0; left = (Asks (Row (table 0) (rid 0)) X ∷ RowUpdate (table 0) (rid 0) ((Int (pos 1)) ∷ (Int (pos 1)) ∷ []) ∷ Answer ∷ []); kept = Found ((rid 0, ((Int (pos 1)) ∷ (Int (pos 100)) ∷ [])) ∷ []) }
 
 abbrev o0_6 : Point
-o0_6 = record { statement = statement_9; columns = []; floor = 0; left = (RowDelete (table 0) (rid 0) ∷ Answer ∷ []); kept = Found ((rid 0, ((Int (pos 1)) ∷ (Int (pos 100)) ∷ [])) ∷ []) }
+o0_6 = record { statement = statement_9; columns = (updated_columns head statement_9); floor = 0; left = (RowUpdate (table 0) (rid 0) ((Int (pos 1)) ∷ (Int (pos 1)) ∷ []) ∷ Answer ∷ []); kept = Found ((rid 0, ((Int (pos 1)) ∷ (Int (pos 100)) ∷ [])) ∷ []) }
 
 abbrev o0_7 : Point
-o0_7 = record { statement = statement_9; columns = []; floor = 0; left = (Answer ∷ []); kept = Found ((rid 0, ((Int (pos 1)) ∷ (Int (pos 100)) ∷ [])) ∷ []) }
+o0_7 = record { statement = statement_9; columns = (updated_columns head statement_9); floor = 0; left = (Answer ∷ []); kept = Found ((rid 0, ((Int (pos 1)) ∷ (Int (pos 100)) ∷ [])) ∷ []) }
 
-abbrev o0_12 : Point
-o0_12 = record { statement = statement_11; columns = []; floor = 1; left = (Settles ∷ []); kept = Found [] }
+from0_32 : ConductFrom head lines w_32 (conn 0) None rest_32
+unfolding mode_number mode_eq goes_with compatible joined at_least covers escalated value_cmp value_eq value_lt name_eq is_hold_of opposes stands_before world_from world is_table_mode is_row_mode table_mode ConductFrom
+from0_32 = tt
+
+from0_31 : ConductFrom head lines w_31 (conn 0) None rest_31
+unfolding mode_number mode_eq goes_with compatible joined at_least covers escalated value_cmp value_eq value_lt name_eq is_hold_of opposes stands_before world_from world is_table_mode is_row_mode table_mode
+from0_31 = link head lines w_31 (conn 0) None e_31 rest_32 None (λ h. not_own h) (refl) from0_32
+
+from0_30 : ConductFrom head lines w_30 (conn 0) None rest_30
+unfolding mode_number mode_eq goes_with compatible joined at_least covers escalated value_cmp value_eq value_lt name_eq is_hold_of opposes stands_before world_from world is_table_mode is_row_mode table_mode
+from0_30 = link head lines w_30 (conn 0) None e_30 rest_31 None (λ h. not_own h) (refl) from0_31
+
+from0_29 : ConductFrom head lines w_29 (conn 0) None rest_29
+unfolding mode_number mode_eq goes_with compatible joined at_least covers escalated value_cmp value_eq value_lt name_eq is_hold_of opposes stands_before world_from world is_table_mode is_row_mode table_mode
+from0_29 = link head lines w_29 (conn 0) None e_29 rest_30 None (λ h. not_own h) (refl) from0_30
+
+from0_28 : ConductFrom head lines w_28 (conn 0) None rest_28
+unfolding mode_number mode_eq goes_with compatible joined at_least covers escalated value_cmp value_eq value_lt name_eq is_hold_of opposes stands_before world_from world is_table_mode is_row_mode table_mode
+from0_28 = link head lines w_28 (conn 0) None e_28 rest_29 None (λ h. refl) (refl) from0_29
+
+from0_27 : ConductFrom head lines w_27 (conn 0) None rest_27
+unfolding mode_number mode_eq goes_with compatible joined at_least covers escalated value_cmp value_eq value_lt name_eq is_hold_of opposes stands_before world_from world is_table_mode is_row_mode table_mode
+from0_27 = link head lines w_27 (conn 0) None e_27 rest_28 None (λ h. refl) (refl) from0_28
+
+from0_26 : ConductFrom head lines w_26 (conn 0) None rest_26
+unfolding mode_number mode_eq goes_with compatible joined at_least covers escalated value_cmp value_eq value_lt name_eq is_hold_of opposes stands_before world_from world is_table_mode is_row_mode table_mode
+from0_26 = link head lines w_26 (conn 0) None e_26 rest_27 None (λ h. not_own h) (refl) from0_27
+
+from0_25 : ConductFrom head lines w_25 (conn 0) None rest_25
+unfolding mode_number mode_eq goes_with compatible joined at_least covers escalated value_cmp value_eq value_lt name_eq is_hold_of opposes stands_before world_from world is_table_mode is_row_mode table_mode
+from0_25 = link head lines w_25 (conn 0) None e_25 rest_26 None (λ h. not_own h) (refl) from0_26
+
+from0_24 : ConductFrom head lines w_24 (conn 0) None rest_24
+unfolding mode_number mode_eq goes_with compatible joined at_least covers escalated value_cmp value_eq value_lt name_eq is_hold_of opposes stands_before world_from world is_table_mode is_row_mode table_mode
+from0_24 = link head lines w_24 (conn 0) None e_24 rest_25 None (λ h. not_own h) (refl) from0_25
+
+from0_23 : ConductFrom head lines w_23 (conn 0) None rest_23
+unfolding mode_number mode_eq goes_with compatible joined at_least covers escalated value_cmp value_eq value_lt name_eq is_hold_of opposes stands_before world_from world is_table_mode is_row_mode table_mode
+from0_23 = link head lines w_23 (conn 0) None e_23 rest_24 None (λ h. not_own h) (refl) from0_24
 
 from0_22 : ConductFrom head lines w_22 (conn 0) None rest_22
-unfolding mode_number mode_eq goes_with compatible joined at_least covers escalated value_cmp value_eq value_lt name_eq is_hold_of opposes stands_before world_from world is_table_mode is_row_mode table_mode ConductFrom
-from0_22 = tt
+unfolding mode_number mode_eq goes_with compatible joined at_least covers escalated value_cmp value_eq value_lt name_eq is_hold_of opposes stands_before world_from world is_table_mode is_row_mode table_mode
+from0_22 = link head lines w_22 (conn 0) None e_22 rest_23 None (λ h. not_own h) (refl) from0_23
 
 from0_21 : ConductFrom head lines w_21 (conn 0) None rest_21
 unfolding mode_number mode_eq goes_with compatible joined at_least covers escalated value_cmp value_eq value_lt name_eq is_hold_of opposes stands_before world_from world is_table_mode is_row_mode table_mode
@@ -352,7 +509,7 @@ from0_18 = link head lines w_18 (conn 0) None e_18 rest_19 None (λ h. not_own h
 
 from0_17 : ConductFrom head lines w_17 (conn 0) None rest_17
 unfolding mode_number mode_eq goes_with compatible joined at_least covers escalated value_cmp value_eq value_lt name_eq is_hold_of opposes stands_before world_from world is_table_mode is_row_mode table_mode
-from0_17 = link head lines w_17 (conn 0) None e_17 rest_18 None (λ h. refl) (refl) from0_18
+from0_17 = link head lines w_17 (conn 0) None e_17 rest_18 None (λ h. not_own h) (refl) from0_18
 
 from0_16 : ConductFrom head lines w_16 (conn 0) None rest_16
 unfolding mode_number mode_eq goes_with compatible joined at_least covers escalated value_cmp value_eq value_lt name_eq is_hold_of opposes stands_before world_from world is_table_mode is_row_mode table_mode
@@ -372,7 +529,7 @@ from0_13 = link head lines w_13 (conn 0) None e_13 rest_14 None (λ h. not_own h
 
 from0_12 : ConductFrom head lines w_12 (conn 0) None rest_12
 unfolding mode_number mode_eq goes_with compatible joined at_least covers escalated value_cmp value_eq value_lt name_eq is_hold_of opposes stands_before world_from world is_table_mode is_row_mode table_mode
-from0_12 = begins head lines w_12 (conn 0) o0_12 e_12 rest_13 refl (refl) (link head lines w_12 (conn 0) (Some o0_12) e_12 rest_13 None (λ h k. refl) (refl) from0_13)
+from0_12 = link head lines w_12 (conn 0) None e_12 rest_13 None (λ h. not_own h) (refl) from0_13
 
 from0_11 : ConductFrom head lines w_11 (conn 0) None rest_11
 unfolding mode_number mode_eq goes_with compatible joined at_least covers escalated value_cmp value_eq value_lt name_eq is_hold_of opposes stands_before world_from world is_table_mode is_row_mode table_mode
@@ -427,39 +584,100 @@ unfolding Conduct
 conduct_0 = from0_0
 
 abbrev o1_9 : Point
-o1_9 = record { statement = statement_10; columns = []; floor = 1; left = (Asks (Table (table 0)) Ix ∷ NewRow (table 0) ((Int (pos 1)) ∷ (Int (pos 5)) ∷ []) ∷ Replies (pos 0) 1 ∷ []); kept = Found [] }
+o1_9 = record { statement = statement_10; columns = []; floor = 1; left = (Sets Cs false ∷ Replies (pos 0) 0 ∷ []); kept = Found [] }
 
 abbrev o1_10 : Point
-o1_10 = record { statement = statement_10; columns = []; floor = 1; left = (NewRow (table 0) ((Int (pos 1)) ∷ (Int (pos 5)) ∷ []) ∷ Replies (pos 0) 1 ∷ []); kept = Found [] }
+o1_10 = record { statement = statement_10; columns = []; floor = 1; left = (Replies (pos 0) 0 ∷ []); kept = Found [] }
 
-abbrev o1_11 : Point
-o1_11 = record { statement = statement_10; columns = []; floor = 1; left = (Claims ∷ NewRow (table 0) ((Int (pos 1)) ∷ (Int (pos 5)) ∷ []) ∷ Replies (pos 0) 1 ∷ []); kept = Found [] }
+abbrev o1_12 : Point
+o1_12 = record { statement = statement_11; columns = (updated_columns head statement_11); floor = 1; left = (Asks (Table (table 0)) Ix ∷ IndexScan (record { table = table 0; want = Alter; index = index 0; column = 0; range = range (Some (bound (Int (pos 1)) true)) (Some (bound (Int (pos 1)) true)); guarded = false }) None ∷ Changes (table 0) ∷ Answer ∷ []); kept = Found [] }
+
+abbrev o1_13 : Point
+o1_13 = record { statement = statement_11; columns = (updated_columns head statement_11); floor = 1; left = (IndexScan (record { table = table 0; want = Alter; index = index 0; column = 0; range = range (Some (bound (Int (pos 1)) true)) (Some (bound (Int (pos 1)) true)); guarded = false }) None ∷ Changes (table 0) ∷ Answer ∷ []); kept = Found [] }
 
 abbrev o1_14 : Point
-o1_14 = record { statement = statement_10; columns = []; floor = 1; left = (NewRow (table 0) ((Int (pos 1)) ∷ (Int (pos 5)) ∷ []) ∷ Replies (pos 0) 1 ∷ []); kept = Found [] }
+o1_14 = record { statement = statement_11; columns = (updated_columns head statement_11); floor = 1; left = (EntryLook (record { table = table 0; want = Alter; index = index 0; column = 0; range = range (Some (bound (Int (pos 1)) true)) (Some (bound (Int (pos 1)) true)); guarded = false }) (Int (pos 1)) (rid 0) ∷ Changes (table 0) ∷ Answer ∷ []); kept = Found [] }
 
 abbrev o1_15 : Point
-o1_15 = record { statement = statement_10; columns = []; floor = 1; left = (Replies (pos 0) 1 ∷ []); kept = Found [] }
+o1_15 = record { statement = statement_11; columns = (updated_columns head statement_11); floor = 1; left = (Undos 0 ∷ Leaves (negsuc 910) 68 ∷ []); kept = Found [] }
 
-from1_22 : ConductFrom head lines w_22 (conn 1) None rest_22
+abbrev o1_18 : Point
+o1_18 = record { statement = statement_13; columns = []; floor = 1; left = (Sets Cs true ∷ Replies (pos 0) 0 ∷ []); kept = Found [] }
+
+abbrev o1_19 : Point
+o1_19 = record { statement = statement_13; columns = []; floor = 1; left = (Replies (pos 0) 0 ∷ []); kept = Found [] }
+
+abbrev o1_21 : Point
+o1_21 = record { statement = statement_14; columns = (updated_columns head statement_14); floor = 1; left = (Asks (Table (table 0)) Ix ∷ IndexScan (record { table = table 0; want = Alter; index = index 0; column = 0; range = range (Some (bound (Int (pos 1)) true)) (Some (bound (Int (pos 1)) true)); guarded = false }) None ∷ Changes (table 0) ∷ Answer ∷ []); kept = Found [] }
+
+abbrev o1_22 : Point
+o1_22 = record { statement = statement_14; columns = (updated_columns head statement_14); floor = 1; left = (IndexScan (record { table = table 0; want = Alter; index = index 0; column = 0; range = range (Some (bound (Int (pos 1)) true)) (Some (bound (Int (pos 1)) true)); guarded = false }) None ∷ Changes (table 0) ∷ Answer ∷ []); kept = Found [] }
+
+abbrev o1_23 : Point
+o1_23 = record { statement = statement_14; columns = (updated_columns head statement_14); floor = 1; left = (EntryLook (record { table = table 0; want = Alter; index = index 0; column = 0; range = range (Some (bound (Int (pos 1)) true)) (Some (bound (Int (pos 1)) true)); guarded = false }) (Int (pos 1)) (rid 0) ∷ Changes (table 0) ∷ Answer ∷ []); kept = Found [] }
+
+abbrev o1_24 : Point
+o1_24 = record { statement = statement_14; columns = (updated_columns head statement_14); floor = 1; left = (Claims ∷ EntryLook (record { table = table 0; want = Alter; index = index 0; column = 0; range = range (Some (bound (Int (pos 1)) true)) (Some (bound (Int (pos 1)) true)); guarded = false }) (Int (pos 1)) (rid 0) ∷ Changes (table 0) ∷ Answer ∷ []); kept = Found [] }
+
+from1_32 : ConductFrom head lines w_32 (conn 1) None rest_32
 unfolding mode_number mode_eq goes_with compatible joined at_least covers escalated value_cmp value_eq value_lt name_eq is_hold_of opposes stands_before world_from world is_table_mode is_row_mode table_mode ConductFrom
-from1_22 = tt
+from1_32 = tt
+
+from1_31 : ConductFrom head lines w_31 (conn 1) None rest_31
+unfolding mode_number mode_eq goes_with compatible joined at_least covers escalated value_cmp value_eq value_lt name_eq is_hold_of opposes stands_before world_from world is_table_mode is_row_mode table_mode
+from1_31 = link head lines w_31 (conn 1) None e_31 rest_32 None (λ h. not_own h) (refl) from1_32
+
+from1_30 : ConductFrom head lines w_30 (conn 1) None rest_30
+unfolding mode_number mode_eq goes_with compatible joined at_least covers escalated value_cmp value_eq value_lt name_eq is_hold_of opposes stands_before world_from world is_table_mode is_row_mode table_mode
+from1_30 = link head lines w_30 (conn 1) None e_30 rest_31 None (λ h. refl) (refl) from1_31
+
+from1_29 : ConductFrom head lines w_29 (conn 1) None rest_29
+unfolding mode_number mode_eq goes_with compatible joined at_least covers escalated value_cmp value_eq value_lt name_eq is_hold_of opposes stands_before world_from world is_table_mode is_row_mode table_mode
+from1_29 = link head lines w_29 (conn 1) None e_29 rest_30 None (λ h. not_own h) (refl) from1_30
+
+from1_28 : ConductFrom head lines w_28 (conn 1) None rest_28
+unfolding mode_number mode_eq goes_with compatible joined at_least covers escalated value_cmp value_eq value_lt name_eq is_hold_of opposes stands_before world_from world is_table_mode is_row_mode table_mode
+from1_28 = link head lines w_28 (conn 1) None e_28 rest_29 None (λ h. not_own h) (refl) from1_29
+
+from1_27 : ConductFrom head lines w_27 (conn 1) None rest_27
+unfolding mode_number mode_eq goes_with compatible joined at_least covers escalated value_cmp value_eq value_lt name_eq is_hold_of opposes stands_before world_from world is_table_mode is_row_mode table_mode
+from1_27 = link head lines w_27 (conn 1) None e_27 rest_28 None (λ h. not_own h) (refl) from1_28
+
+from1_26 : ConductFrom head lines w_26 (conn 1) None rest_26
+unfolding mode_number mode_eq goes_with compatible joined at_least covers escalated value_cmp value_eq value_lt name_eq is_hold_of opposes stands_before world_from world is_table_mode is_row_mode table_mode
+from1_26 = link head lines w_26 (conn 1) None e_26 rest_27 None (λ h. not_own h) (refl) from1_27
+
+from1_25 : ConductFrom head lines w_25 (conn 1) (Some o1_24) rest_25
+unfolding mode_number mode_eq goes_with compatible joined at_least covers escalated value_cmp value_eq value_lt name_eq is_hold_of opposes stands_before world_from world is_table_mode is_row_mode table_mode
+from1_25 = link head lines w_25 (conn 1) (Some o1_24) e_25 rest_26 None (λ h. refl) (refl) from1_26
+
+from1_24 : ConductFrom head lines w_24 (conn 1) (Some o1_24) rest_24
+unfolding mode_number mode_eq goes_with compatible joined at_least covers escalated value_cmp value_eq value_lt name_eq is_hold_of opposes stands_before world_from world is_table_mode is_row_mode table_mode
+from1_24 = link head lines w_24 (conn 1) (Some o1_24) e_24 rest_25 (Some o1_24) (λ h. not_own h) (refl) from1_25
+
+from1_23 : ConductFrom head lines w_23 (conn 1) (Some o1_23) rest_23
+unfolding mode_number mode_eq goes_with compatible joined at_least covers escalated value_cmp value_eq value_lt name_eq is_hold_of opposes stands_before world_from world is_table_mode is_row_mode table_mode
+from1_23 = link head lines w_23 (conn 1) (Some o1_23) e_23 rest_24 (Some o1_24) (λ h k. refl) (refl) from1_24
+
+from1_22 : ConductFrom head lines w_22 (conn 1) (Some o1_22) rest_22
+unfolding mode_number mode_eq goes_with compatible joined at_least covers escalated value_cmp value_eq value_lt name_eq is_hold_of opposes stands_before world_from world is_table_mode is_row_mode table_mode
+from1_22 = link head lines w_22 (conn 1) (Some o1_22) e_22 rest_23 (Some o1_23) (λ h k. refl) (refl) from1_23
 
 from1_21 : ConductFrom head lines w_21 (conn 1) None rest_21
 unfolding mode_number mode_eq goes_with compatible joined at_least covers escalated value_cmp value_eq value_lt name_eq is_hold_of opposes stands_before world_from world is_table_mode is_row_mode table_mode
-from1_21 = link head lines w_21 (conn 1) None e_21 rest_22 None (λ h. not_own h) (refl) from1_22
+from1_21 = begins head lines w_21 (conn 1) o1_21 e_21 rest_22 refl (ap (λ x. Some (begun head w_21 (conn 1) statement_14 (change_list head (table 0) (level_in (w_21.setting (conn 1)) None) x))) plan_14) (link head lines w_21 (conn 1) (Some o1_21) e_21 rest_22 (Some o1_22) (λ h k. refl) (refl) from1_22)
 
 from1_20 : ConductFrom head lines w_20 (conn 1) None rest_20
 unfolding mode_number mode_eq goes_with compatible joined at_least covers escalated value_cmp value_eq value_lt name_eq is_hold_of opposes stands_before world_from world is_table_mode is_row_mode table_mode
-from1_20 = link head lines w_20 (conn 1) None e_20 rest_21 None (λ h. refl) (refl) from1_21
+from1_20 = link head lines w_20 (conn 1) None e_20 rest_21 None (λ h. not_own h) (refl) from1_21
 
-from1_19 : ConductFrom head lines w_19 (conn 1) None rest_19
+from1_19 : ConductFrom head lines w_19 (conn 1) (Some o1_19) rest_19
 unfolding mode_number mode_eq goes_with compatible joined at_least covers escalated value_cmp value_eq value_lt name_eq is_hold_of opposes stands_before world_from world is_table_mode is_row_mode table_mode
-from1_19 = link head lines w_19 (conn 1) None e_19 rest_20 None (λ h. refl) (refl) from1_20
+from1_19 = link head lines w_19 (conn 1) (Some o1_19) e_19 rest_20 None (λ h k. refl) (refl) from1_20
 
 from1_18 : ConductFrom head lines w_18 (conn 1) None rest_18
 unfolding mode_number mode_eq goes_with compatible joined at_least covers escalated value_cmp value_eq value_lt name_eq is_hold_of opposes stands_before world_from world is_table_mode is_row_mode table_mode
-from1_18 = link head lines w_18 (conn 1) None e_18 rest_19 None (λ h. not_own h) (refl) from1_19
+from1_18 = begins head lines w_18 (conn 1) o1_18 e_18 rest_19 refl (refl) (link head lines w_18 (conn 1) (Some o1_18) e_18 rest_19 (Some o1_19) (λ h k. refl) (refl) from1_19)
 
 from1_17 : ConductFrom head lines w_17 (conn 1) None rest_17
 unfolding mode_number mode_eq goes_with compatible joined at_least covers escalated value_cmp value_eq value_lt name_eq is_hold_of opposes stands_before world_from world is_table_mode is_row_mode table_mode
@@ -471,27 +689,27 @@ from1_16 = link head lines w_16 (conn 1) None e_16 rest_17 None (λ h. not_own h
 
 from1_15 : ConductFrom head lines w_15 (conn 1) (Some o1_15) rest_15
 unfolding mode_number mode_eq goes_with compatible joined at_least covers escalated value_cmp value_eq value_lt name_eq is_hold_of opposes stands_before world_from world is_table_mode is_row_mode table_mode
-from1_15 = link head lines w_15 (conn 1) (Some o1_15) e_15 rest_16 None (λ h k. refl) (refl) from1_16
+from1_15 = link head lines w_15 (conn 1) (Some o1_15) e_15 rest_16 None (λ h. refl) (refl) from1_16
 
 from1_14 : ConductFrom head lines w_14 (conn 1) (Some o1_14) rest_14
 unfolding mode_number mode_eq goes_with compatible joined at_least covers escalated value_cmp value_eq value_lt name_eq is_hold_of opposes stands_before world_from world is_table_mode is_row_mode table_mode
 from1_14 = link head lines w_14 (conn 1) (Some o1_14) e_14 rest_15 (Some o1_15) (λ h k. refl) (refl) from1_15
 
-from1_13 : ConductFrom head lines w_13 (conn 1) (Some o1_11) rest_13
+from1_13 : ConductFrom head lines w_13 (conn 1) (Some o1_13) rest_13
 unfolding mode_number mode_eq goes_with compatible joined at_least covers escalated value_cmp value_eq value_lt name_eq is_hold_of opposes stands_before world_from world is_table_mode is_row_mode table_mode
-from1_13 = link head lines w_13 (conn 1) (Some o1_11) e_13 rest_14 (Some o1_14) (λ h k. refl) (refl) from1_14
+from1_13 = link head lines w_13 (conn 1) (Some o1_13) e_13 rest_14 (Some o1_14) (λ h k. refl) (refl) from1_14
 
-from1_12 : ConductFrom head lines w_12 (conn 1) (Some o1_11) rest_12
+from1_12 : ConductFrom head lines w_12 (conn 1) None rest_12
 unfolding mode_number mode_eq goes_with compatible joined at_least covers escalated value_cmp value_eq value_lt name_eq is_hold_of opposes stands_before world_from world is_table_mode is_row_mode table_mode
-from1_12 = link head lines w_12 (conn 1) (Some o1_11) e_12 rest_13 (Some o1_11) (λ h. not_own h) (refl) from1_13
+from1_12 = begins head lines w_12 (conn 1) o1_12 e_12 rest_13 refl (ap (λ x. Some (begun head w_12 (conn 1) statement_11 (change_list head (table 0) (level_in (w_12.setting (conn 1)) None) x))) plan_11) (link head lines w_12 (conn 1) (Some o1_12) e_12 rest_13 (Some o1_13) (λ h k. refl) (refl) from1_13)
 
-from1_11 : ConductFrom head lines w_11 (conn 1) (Some o1_11) rest_11
+from1_11 : ConductFrom head lines w_11 (conn 1) None rest_11
 unfolding mode_number mode_eq goes_with compatible joined at_least covers escalated value_cmp value_eq value_lt name_eq is_hold_of opposes stands_before world_from world is_table_mode is_row_mode table_mode
-from1_11 = link head lines w_11 (conn 1) (Some o1_11) e_11 rest_12 (Some o1_11) (λ h. not_own h) (refl) from1_12
+from1_11 = link head lines w_11 (conn 1) None e_11 rest_12 None (λ h. not_own h) (refl) from1_12
 
 from1_10 : ConductFrom head lines w_10 (conn 1) (Some o1_10) rest_10
 unfolding mode_number mode_eq goes_with compatible joined at_least covers escalated value_cmp value_eq value_lt name_eq is_hold_of opposes stands_before world_from world is_table_mode is_row_mode table_mode
-from1_10 = link head lines w_10 (conn 1) (Some o1_10) e_10 rest_11 (Some o1_11) (λ h k. refl) (refl) from1_11
+from1_10 = link head lines w_10 (conn 1) (Some o1_10) e_10 rest_11 None (λ h k. refl) (refl) from1_11
 
 from1_9 : ConductFrom head lines w_9 (conn 1) None rest_9
 unfolding mode_number mode_eq goes_with compatible joined at_least covers escalated value_cmp value_eq value_lt name_eq is_hold_of opposes stands_before world_from world is_table_mode is_row_mode table_mode
@@ -539,12 +757,12 @@ conduct_1 = from1_0
 
 paced : Paced head lines es
 unfolding mode_number mode_eq goes_with compatible joined at_least covers escalated value_cmp value_eq value_lt name_eq is_hold_of opposes stands_before world_from world is_table_mode is_row_mode table_mode PacedFrom Paced
-paced = (refl, (tt, (tt, (tt, (tt, (tt, (tt, (tt, (refl, (tt, (tt, (refl, (tt, (tt, (tt, (tt, (refl, (tt, (refl, (tt, (tt, (refl, tt))))))))))))))))))))))
+paced = (refl, (tt, (tt, (tt, (tt, (tt, (tt, (tt, (refl, (tt, (tt, (refl, (tt, (tt, (tt, (tt, (refl, (refl, (tt, (tt, (refl, (tt, (tt, (tt, (refl, (tt, (refl, (tt, (tt, (refl, (tt, (refl, tt))))))))))))))))))))))))))))))))
 
 scheduled : Scheduled head lines None es
 unfolding mode_number mode_eq goes_with compatible joined at_least covers escalated value_cmp value_eq value_lt name_eq is_hold_of opposes stands_before world_from world is_table_mode is_row_mode table_mode ScheduledFrom Scheduled
-scheduled = (refl, (λ k. refl, λ h. no_stop h), (refl, tt, (refl, tt, (refl, tt, (refl, tt, (refl, tt, (refl, tt, (refl, tt, (refl, (λ k. refl, λ h. no_stop h), (refl, tt, (refl, tt, (refl, (λ k. refl, λ h. no_stop h), (refl, tt, (refl, tt, (refl, tt, (refl, tt, (refl, (λ k. refl, λ h. no_stop h), (refl, tt, (refl, (λ k. refl, λ h. no_stop h), (refl, tt, (refl, tt, (refl, (λ k. refl, λ h. no_stop h), tt))))))))))))))))))))))
+scheduled = (refl, (λ k. refl, λ h. no_stop h), (refl, tt, (refl, tt, (refl, tt, (refl, tt, (refl, tt, (refl, tt, (refl, tt, (refl, (λ k. refl, λ h. no_stop h), (refl, tt, (refl, tt, (refl, (λ k. refl, λ h. no_stop h), (refl, tt, (refl, tt, (refl, tt, (refl, tt, (refl, (λ k. refl, λ h. no_stop h), (refl, (λ k. refl, λ h. no_stop h), (refl, tt, (refl, tt, (refl, (λ k. refl, λ h. no_stop h), (refl, tt, (refl, tt, (refl, tt, (refl, (λ k. refl, λ h. no_stop h), (refl, tt, (refl, (λ k. refl, λ h. no_stop h), (refl, tt, (refl, tt, (refl, (λ k. refl, λ h. no_stop h), (refl, tt, (refl, (λ k. refl, λ h. no_stop h), tt))))))))))))))))))))))))))))))))
 
 whole : IsWhole (record { head = head; lines = lines }) es
 unfolding mode_number mode_eq goes_with compatible joined at_least covers escalated value_cmp value_eq value_lt name_eq is_hold_of opposes stands_before world_from world is_table_mode is_row_mode table_mode
-whole = record { finished = (take 21 es, refl); unstopped = refl; lines = refl; ended = refl }
+whole = record { finished = (take 31 es, refl); unstopped = refl; lines = refl; ended = refl }

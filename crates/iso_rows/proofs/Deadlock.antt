@@ -1,4 +1,4 @@
--- Row 16: legal, scheduled and whole, by computing.
+-- A deadlock and its victim: legal, scheduled and whole, by computing.
 use Rattle.std.proofs.Common.{◌≡◌, ℕ, Bool, true, false, List, [], ◌∷◌, refl, Some, None, length, take, drop, pos, negsuc}
 use Rattle.std.specs.List.{list_all}
 use Rattle.iso_types.specs.declared.value.Value.{Value}
@@ -64,190 +64,241 @@ use Rattle.iso_types.specs.Head.{is_null}
 use Rattle.iso_rows.proofs.Linked.{always-bounds, always-truth, and-bounds-by, and-by, begins, begun, between-bounds, between-truth, compare-bounds, compare-truth, link, not-bounds, not-by, null-bounds, null-truth, or-bounds, or-by, past_look}
 
 abbrev head : Head
-head = heading (config true 4 10 65536 65536)
-    (table_def (column Integer true ∷ []) ∷ table_def (column Integer true ∷ []) ∷ [])
-    (index_def (table 0) 0 false ∷ [])
-    (first_row (table 0) ((Int (pos 1)) ∷ []) ∷ first_row (table 0) ((Int (pos 2)) ∷ []) ∷ first_row (table 0) ((Int (pos 3)) ∷ []) ∷ first_row (table 0) ((Int (pos 4)) ∷ []) ∷ first_row (table 0) ((Int (pos 5)) ∷ []) ∷ first_row (table 0) ((Int (pos 6)) ∷ []) ∷ first_row (table 0) ((Int (pos 7)) ∷ []) ∷ first_row (table 0) ((Int (pos 8)) ∷ []) ∷ first_row (table 0) ((Int (pos 9)) ∷ []) ∷ first_row (table 0) ((Int (pos 10)) ∷ []) ∷ first_row (table 0) ((Int (pos 11)) ∷ []) ∷ first_row (table 0) ((Int (pos 12)) ∷ []) ∷ first_row (table 1) ((Int (pos 1)) ∷ []) ∷ first_row (table 1) ((Int (pos 2)) ∷ []) ∷ [])
-    (conn_def Rs ∷ conn_def Cs ∷ [])
+head = heading (config true 1024 60 65536 65536)
+    (table_def (column Integer true ∷ column Integer false ∷ []) ∷ [])
+    (index_def (table 0) 0 true ∷ [])
+    (first_row (table 0) ((Int (pos 1)) ∷ (Int (pos 100)) ∷ []) ∷ first_row (table 0) ((Int (pos 2)) ∷ (Int (pos 200)) ∷ []) ∷ [])
+    (conn_def Cs ∷ conn_def Cs ∷ [])
 
-abbrev statement_24 : Statement
-statement_24 = Select (table 1) Count c.Always None
+abbrev statement_9 : Statement
+statement_9 = Statement.Update (table 0) (sets_of (assign 1 (Expr.Literal (Int (pos 1))) ∷ [])) (c.Compare 0 Eq (Int (pos 1))) None
 
-abbrev cond_24 : Condition
-cond_24 = c.Always
+abbrev cond_9 : Condition
+cond_9 = (c.Compare 0 Eq (Int (pos 1)))
 
-truth_24 : (row : List Value) → truth row cond_24 ≡ True
-truth_24 row = always-truth row
+truth_9 : (row : List Value) → truth row cond_9 ≡ compared Eq (value_at row 0) (Int (pos 1))
+truth_9 row = compare-truth row 0 Eq (Int (pos 1))
 
-plan_24 : plan_of head (table 1) cond_24 ≡ Path.Table
+plan_9 : plan_of head (table 0) cond_9 ≡ (Path.Index (index 0) (range (Some (bound (Int (pos 1)) true)) (Some (bound (Int (pos 1)) true))))
 unfolding mode_number mode_eq goes_with compatible joined at_least covers escalated value_cmp value_eq value_lt name_eq is_hold_of opposes stands_before world_from world is_table_mode is_row_mode table_mode
-plan_24 = refl
+plan_9 = ap (λ x. path_by (index 0) x (first_path head cond_9 [])) (compare-bounds 0 0 Eq (Int (pos 1)))
 
-abbrev statement_25 : Statement
-statement_25 = Statement.Delete (table 0) (c.Compare 0 Eq (Int (pos 12))) None
+abbrev statement_10 : Statement
+statement_10 = Statement.Update (table 0) (sets_of (assign 1 (Expr.Literal (Int (pos 2))) ∷ [])) (c.Compare 0 Eq (Int (pos 2))) None
 
-abbrev cond_25 : Condition
-cond_25 = (c.Compare 0 Eq (Int (pos 12)))
+abbrev cond_10 : Condition
+cond_10 = (c.Compare 0 Eq (Int (pos 2)))
 
-truth_25 : (row : List Value) → truth row cond_25 ≡ compared Eq (value_at row 0) (Int (pos 12))
-truth_25 row = compare-truth row 0 Eq (Int (pos 12))
+truth_10 : (row : List Value) → truth row cond_10 ≡ compared Eq (value_at row 0) (Int (pos 2))
+truth_10 row = compare-truth row 0 Eq (Int (pos 2))
 
-plan_25 : plan_of head (table 0) cond_25 ≡ (Path.Index (index 0) (range (Some (bound (Int (pos 12)) true)) (Some (bound (Int (pos 12)) true))))
+plan_10 : plan_of head (table 0) cond_10 ≡ (Path.Index (index 0) (range (Some (bound (Int (pos 2)) true)) (Some (bound (Int (pos 2)) true))))
 unfolding mode_number mode_eq goes_with compatible joined at_least covers escalated value_cmp value_eq value_lt name_eq is_hold_of opposes stands_before world_from world is_table_mode is_row_mode table_mode
-plan_25 = ap (λ x. path_by (index 0) x (first_path head cond_25 [])) (compare-bounds 0 0 Eq (Int (pos 12)))
+plan_10 = ap (λ x. path_by (index 0) x (first_path head cond_10 [])) (compare-bounds 0 0 Eq (Int (pos 2)))
 
-abbrev statement_26 : Statement
-statement_26 = Select (table 0) Count c.Always None
+abbrev statement_11 : Statement
+statement_11 = Statement.Update (table 0) (sets_of (assign 1 (Expr.Literal (Int (pos 1))) ∷ [])) (c.Compare 0 Eq (Int (pos 2))) None
 
-abbrev cond_26 : Condition
-cond_26 = c.Always
+abbrev cond_11 : Condition
+cond_11 = (c.Compare 0 Eq (Int (pos 2)))
 
-truth_26 : (row : List Value) → truth row cond_26 ≡ True
-truth_26 row = always-truth row
+truth_11 : (row : List Value) → truth row cond_11 ≡ compared Eq (value_at row 0) (Int (pos 2))
+truth_11 row = compare-truth row 0 Eq (Int (pos 2))
 
-plan_26 : plan_of head (table 0) cond_26 ≡ Path.Table
+plan_11 : plan_of head (table 0) cond_11 ≡ (Path.Index (index 0) (range (Some (bound (Int (pos 2)) true)) (Some (bound (Int (pos 2)) true))))
 unfolding mode_number mode_eq goes_with compatible joined at_least covers escalated value_cmp value_eq value_lt name_eq is_hold_of opposes stands_before world_from world is_table_mode is_row_mode table_mode
-plan_26 = ap (λ x. path_by (index 0) x (first_path head cond_26 [])) (always-bounds 0)
+plan_11 = ap (λ x. path_by (index 0) x (first_path head cond_11 [])) (compare-bounds 0 0 Eq (Int (pos 2)))
 
-abbrev statement_27 : Statement
-statement_27 = Statement.Commit
+abbrev statement_12 : Statement
+statement_12 = Statement.Update (table 0) (sets_of (assign 1 (Expr.Literal (Int (pos 2))) ∷ [])) (c.Compare 0 Eq (Int (pos 1))) None
+
+abbrev cond_12 : Condition
+cond_12 = (c.Compare 0 Eq (Int (pos 1)))
+
+truth_12 : (row : List Value) → truth row cond_12 ≡ compared Eq (value_at row 0) (Int (pos 1))
+truth_12 row = compare-truth row 0 Eq (Int (pos 1))
+
+plan_12 : plan_of head (table 0) cond_12 ≡ (Path.Index (index 0) (range (Some (bound (Int (pos 1)) true)) (Some (bound (Int (pos 1)) true))))
+unfolding mode_number mode_eq goes_with compatible joined at_least covers escalated value_cmp value_eq value_lt name_eq is_hold_of opposes stands_before world_from world is_table_mode is_row_mode table_mode
+plan_12 = ap (λ x. path_by (index 0) x (first_path head cond_12 [])) (compare-bounds 0 0 Eq (Int (pos 1)))
+
+abbrev statement_13 : Statement
+statement_13 = Statement.Commit
+
+abbrev statement_14 : Statement
+statement_14 = Select (table 0) (Columns (1 ∷ [])) c.Always None
+
+abbrev cond_14 : Condition
+cond_14 = c.Always
+
+truth_14 : (row : List Value) → truth row cond_14 ≡ True
+truth_14 row = always-truth row
+
+plan_14 : plan_of head (table 0) cond_14 ≡ Path.Table
+unfolding mode_number mode_eq goes_with compatible joined at_least covers escalated value_cmp value_eq value_lt name_eq is_hold_of opposes stands_before world_from world is_table_mode is_row_mode table_mode
+plan_14 = ap (λ x. path_by (index 0) x (first_path head cond_14 [])) (always-bounds 0)
 
 abbrev lines : List Line
 lines =
-    (line 24 (Some (conn 0)) false (What.Statement (Select (table 1) Count c.Always None))
-    ∷ line 25 (Some (conn 1)) false (What.Statement (Statement.Delete (table 0) (c.Compare 0 Eq (Int (pos 12))) None))
-    ∷ line 26 (Some (conn 0)) false (What.Statement (Select (table 0) Count c.Always None))
-    ∷ line 27 (Some (conn 1)) false (What.Statement (Statement.Commit))
-    ∷ line 28 None false What.Snapshot ∷ [])
+    (line 9 (Some (conn 0)) false (What.Statement (Statement.Update (table 0) (sets_of (assign 1 (Expr.Literal (Int (pos 1))) ∷ [])) (c.Compare 0 Eq (Int (pos 1))) None))
+    ∷ line 10 (Some (conn 1)) false (What.Statement (Statement.Update (table 0) (sets_of (assign 1 (Expr.Literal (Int (pos 2))) ∷ [])) (c.Compare 0 Eq (Int (pos 2))) None))
+    ∷ line 11 (Some (conn 0)) false (What.Statement (Statement.Update (table 0) (sets_of (assign 1 (Expr.Literal (Int (pos 1))) ∷ [])) (c.Compare 0 Eq (Int (pos 2))) None))
+    ∷ line 12 (Some (conn 1)) false (What.Statement (Statement.Update (table 0) (sets_of (assign 1 (Expr.Literal (Int (pos 2))) ∷ [])) (c.Compare 0 Eq (Int (pos 1))) None))
+    ∷ line 13 (Some (conn 0)) false (What.Statement (Statement.Commit))
+    ∷ line 14 (Some (conn 1)) false (What.Statement (Select (table 0) (Columns (1 ∷ [])) c.Always None)) ∷ [])
 
 abbrev e_0 : Entry
-e_0 = dispatcher (Dispatch 24 (conn 0))
+e_0 = dispatcher (Dispatch 9 (conn 0))
 
 abbrev e_1 : Entry
-e_1 = agent 0 (Lock (Table (table 1)) Is Kept Asked Got.Granted)
+e_1 = agent 0 (Lock (Table (table 0)) Ix Kept Asked Got.Granted)
 
 abbrev e_2 : Entry
-e_2 = agent 0 (Look (table 1) (rid 0) Steady Got.Granted)
+e_2 = agent 0 (Next (index 0) (range (Some (bound (Int (pos 1)) true)) (Some (bound (Int (pos 1)) true))) None false (At (Int (pos 1)) (rid 0)))
 
 abbrev e_3 : Entry
-e_3 = agent 0 (Look (table 1) (rid 1) Steady Got.Granted)
+e_3 = agent 0 (Look (table 0) (rid 0) Alter Got.Granted)
 
 abbrev e_4 : Entry
-e_4 = agent 0 (ScanEnd (table 1) 2)
+e_4 = agent 0 (Next (index 0) (range (Some (bound (Int (pos 1)) true)) (Some (bound (Int (pos 1)) true))) (Some ((Int (pos 1)), rid 0)) false Past)
 
 abbrev e_5 : Entry
-e_5 = agent 0 (Reply (pos 0) 0 (((Int (pos 2)) ∷ []) ∷ []))
+e_5 = agent 0 (Lock (Row (table 0) (rid 0)) X Kept Asked Got.Granted)
 
 abbrev e_6 : Entry
-e_6 = dispatcher (Dispatch 25 (conn 1))
+e_6 = agent 0 (Update (table 0) (rid 0) ((Int (pos 1)) ∷ (Int (pos 1)) ∷ []))
 
 abbrev e_7 : Entry
-e_7 = agent 1 (Lock (Table (table 0)) Ix Kept Asked Got.Granted)
+e_7 = agent 0 (Reply (pos 0) 1 [])
 
 abbrev e_8 : Entry
-e_8 = agent 1 (Next (index 0) (range (Some (bound (Int (pos 12)) true)) (Some (bound (Int (pos 12)) true))) None false (At (Int (pos 12)) (rid 11)))
+e_8 = dispatcher (Dispatch 10 (conn 1))
 
 abbrev e_9 : Entry
-e_9 = agent 1 (Look (table 0) (rid 11) Alter Got.Granted)
+e_9 = agent 1 (Lock (Table (table 0)) Ix Kept Asked Got.Granted)
 
 abbrev e_10 : Entry
-e_10 = agent 1 (Next (index 0) (range (Some (bound (Int (pos 12)) true)) (Some (bound (Int (pos 12)) true))) (Some ((Int (pos 12)), rid 11)) false Past)
+e_10 = agent 1 (Next (index 0) (range (Some (bound (Int (pos 2)) true)) (Some (bound (Int (pos 2)) true))) None false (At (Int (pos 2)) (rid 1)))
 
 abbrev e_11 : Entry
-e_11 = agent 1 (Lock (Row (table 0) (rid 11)) X Kept Asked Got.Granted)
+e_11 = agent 1 (Look (table 0) (rid 1) Alter Got.Granted)
 
 abbrev e_12 : Entry
-e_12 = agent 1 (Delete (table 0) (rid 11))
+e_12 = agent 1 (Next (index 0) (range (Some (bound (Int (pos 2)) true)) (Some (bound (Int (pos 2)) true))) (Some ((Int (pos 2)), rid 1)) false Past)
 
 abbrev e_13 : Entry
-e_13 = agent 1 (Reply (pos 0) 1 [])
+e_13 = agent 1 (Lock (Row (table 0) (rid 1)) X Kept Asked Got.Granted)
 
 abbrev e_14 : Entry
-e_14 = dispatcher (Dispatch 26 (conn 0))
+e_14 = agent 1 (Update (table 0) (rid 1) ((Int (pos 2)) ∷ (Int (pos 2)) ∷ []))
 
 abbrev e_15 : Entry
-e_15 = agent 0 (Lock (Table (table 0)) Is Kept Asked Got.Granted)
+e_15 = agent 1 (Reply (pos 0) 1 [])
 
 abbrev e_16 : Entry
-e_16 = agent 0 (Look (table 0) (rid 0) Steady Got.Granted)
+e_16 = dispatcher (Dispatch 11 (conn 0))
 
 abbrev e_17 : Entry
-e_17 = agent 0 (Look (table 0) (rid 1) Steady Got.Granted)
+e_17 = agent 0 (Lock (Table (table 0)) Ix Kept Asked Got.Granted)
 
 abbrev e_18 : Entry
-e_18 = agent 0 (Look (table 0) (rid 2) Steady Got.Granted)
+e_18 = agent 0 (Next (index 0) (range (Some (bound (Int (pos 2)) true)) (Some (bound (Int (pos 2)) true))) None false (At (Int (pos 2)) (rid 1)))
 
 abbrev e_19 : Entry
-e_19 = agent 0 (Look (table 0) (rid 3) Steady Got.Granted)
+e_19 = agent 0 (Look (table 0) (rid 1) Alter (Got.Queued U))
 
 abbrev e_20 : Entry
-e_20 = agent 0 (Look (table 0) (rid 4) Steady Got.Granted)
+e_20 = dispatcher (Dispatch 12 (conn 1))
 
 abbrev e_21 : Entry
-e_21 = agent 0 (Look (table 0) (rid 5) Steady Got.Granted)
+e_21 = agent 1 (Lock (Table (table 0)) Ix Kept Asked Got.Granted)
 
 abbrev e_22 : Entry
-e_22 = agent 0 (Look (table 0) (rid 6) Steady Got.Granted)
+e_22 = agent 1 (Next (index 0) (range (Some (bound (Int (pos 1)) true)) (Some (bound (Int (pos 1)) true))) None false (At (Int (pos 1)) (rid 0)))
 
 abbrev e_23 : Entry
-e_23 = agent 0 (Look (table 0) (rid 7) Steady Got.Granted)
+e_23 = agent 1 (Look (table 0) (rid 0) Alter (Got.Queued U))
 
 abbrev e_24 : Entry
-e_24 = agent 0 (Lock (Table (table 0)) S Kept Escalation (Got.Queued S))
+e_24 = dispatcher (Victim (conn 0 ∷ conn 1 ∷ []))
 
 abbrev e_25 : Entry
-e_25 = dispatcher (Dispatch 27 (conn 1))
+e_25 = agent 1 (Undo 1)
 
 abbrev e_26 : Entry
-e_26 = agent 1 (Commit)
+e_26 = agent 1 (Rollback (negsuc 910) 2)
 
 abbrev e_27 : Entry
-e_27 = dispatcher (Purge (index 0) (Int (pos 12)) (rid 11))
+e_27 = agent 0 (Claim)
 
 abbrev e_28 : Entry
-e_28 = agent 0 (Claim)
+e_28 = agent 0 (Look (table 0) (rid 1) Alter Got.Granted)
 
 abbrev e_29 : Entry
-e_29 = agent 0 (Collapse (table 0) S)
+e_29 = agent 0 (Next (index 0) (range (Some (bound (Int (pos 2)) true)) (Some (bound (Int (pos 2)) true))) (Some ((Int (pos 2)), rid 1)) false Past)
 
 abbrev e_30 : Entry
-e_30 = agent 0 (Look (table 0) (rid 8) Steady Got.Granted)
+e_30 = agent 0 (Lock (Row (table 0) (rid 1)) X Kept Asked Got.Granted)
 
 abbrev e_31 : Entry
-e_31 = agent 0 (Look (table 0) (rid 9) Steady Got.Granted)
+e_31 = agent 0 (Update (table 0) (rid 1) ((Int (pos 2)) ∷ (Int (pos 1)) ∷ []))
 
 abbrev e_32 : Entry
-e_32 = agent 0 (Look (table 0) (rid 10) Steady Got.Granted)
+e_32 = agent 0 (Reply (pos 0) 1 [])
 
 abbrev e_33 : Entry
-e_33 = agent 0 (Look (table 0) (rid 11) Steady Got.Granted)
+e_33 = dispatcher (Dispatch 13 (conn 0))
 
 abbrev e_34 : Entry
-e_34 = agent 0 (ScanEnd (table 0) 12)
+e_34 = agent 0 (Commit)
 
 abbrev e_35 : Entry
-e_35 = agent 0 (Reply (pos 0) 0 (((Int (pos 11)) ∷ []) ∷ []))
+e_35 = dispatcher (Dispatch 14 (conn 1))
 
 abbrev e_36 : Entry
-e_36 = dispatcher (Snapshot 28 (lock_line (Table (table 0)) (conn 0) S LockState.Granted ∷ lock_line (Table (table 1)) (conn 0) Is LockState.Granted ∷ lock_line (Row (table 1) (rid 0)) (conn 0) Ns LockState.Granted ∷ lock_line (Row (table 1) (rid 1)) (conn 0) Ns LockState.Granted ∷ []))
+e_36 = agent 1 (Lock (Table (table 0)) Is Kept Asked Got.Granted)
 
 abbrev e_37 : Entry
-e_37 = dispatcher (Close (conn 0))
+e_37 = agent 1 (Look (table 0) (rid 0) Current Got.Granted)
 
 abbrev e_38 : Entry
-e_38 = agent 0 (Act.Ended)
+e_38 = agent 1 (Look (table 0) (rid 1) Current Got.Granted)
 
 abbrev e_39 : Entry
-e_39 = dispatcher (Close (conn 1))
+e_39 = agent 1 (ScanEnd (table 0) 2)
 
 abbrev e_40 : Entry
-e_40 = agent 1 (Act.Ended)
+e_40 = agent 1 (Reply (pos 0) 0 (((Int (pos 1)) ∷ []) ∷ ((Int (pos 1)) ∷ []) ∷ []))
 
 abbrev e_41 : Entry
-e_41 = dispatcher (Finish)
+e_41 = dispatcher (Close (conn 0))
+
+abbrev e_42 : Entry
+e_42 = agent 0 (Act.Ended)
+
+abbrev e_43 : Entry
+e_43 = dispatcher (Close (conn 1))
+
+abbrev e_44 : Entry
+e_44 = agent 1 (Act.Ended)
+
+abbrev e_45 : Entry
+e_45 = dispatcher (Finish)
+
+abbrev rest_46 : List Entry
+rest_46 = []
+
+abbrev rest_45 : List Entry
+rest_45 = e_45 ∷ rest_46
+
+abbrev rest_44 : List Entry
+rest_44 = e_44 ∷ rest_45
+
+abbrev rest_43 : List Entry
+rest_43 = e_43 ∷ rest_44
 
 abbrev rest_42 : List Entry
-rest_42 = []
+rest_42 = e_42 ∷ rest_43
 
 abbrev rest_41 : List Entry
 rest_41 = e_41 ∷ rest_42
@@ -504,85 +555,95 @@ w_41 = after head w_40 e_40
 abbrev w_42 : World
 w_42 = after head w_41 e_41
 
+abbrev w_43 : World
+w_43 = after head w_42 e_42
+
+abbrev w_44 : World
+w_44 = after head w_43 e_43
+
+abbrev w_45 : World
+w_45 = after head w_44 e_44
+
+abbrev w_46 : World
+w_46 = after head w_45 e_45
+
 abbrev es : List Entry
 es = rest_0
 
 ground : Ground head es
 unfolding mode_number mode_eq goes_with compatible joined at_least covers escalated value_cmp value_eq value_lt name_eq is_hold_of opposes stands_before world_from world is_table_mode is_row_mode table_mode GroundFrom Ground
-ground = ((refl, refl, (refl, refl, refl)), ((refl, refl, (refl, ((refl, refl), (refl, refl, refl)))), ((refl, refl, (refl, ((refl, refl), refl, refl))), ((refl, refl, (refl, ((refl, refl), refl, refl))), ((refl, refl, (refl, ((refl, refl), refl, refl))), ((refl, refl, (refl, (refl, refl))), ((refl, refl, (refl, refl, refl)), ((refl, refl, (refl, ((refl, refl), (refl, refl, refl)))), ((refl, refl, (refl, ((refl, refl), refl, refl))), ((refl, refl, (refl, ((refl, refl), refl, refl))), ((refl, refl, (refl, ((refl, refl), refl, refl))), ((refl, refl, (refl, ((refl, refl), (refl, refl, refl)))), ((refl, refl, (refl, ((refl, refl), refl, refl))), ((refl, refl, (refl, (refl, refl))), ((refl, refl, (refl, refl, refl)), ((refl, refl, (refl, ((refl, refl), (refl, refl, refl)))), ((refl, refl, (refl, ((refl, refl), refl, refl))), ((refl, refl, (refl, ((refl, refl), refl, refl))), ((refl, refl, (refl, ((refl, refl), refl, refl))), ((refl, refl, (refl, ((refl, refl), refl, refl))), ((refl, refl, (refl, ((refl, refl), refl, refl))), ((refl, refl, (refl, ((refl, refl), refl, refl))), ((refl, refl, (refl, ((refl, refl), refl, refl))), ((refl, refl, (refl, ((refl, refl), refl, refl))), ((refl, refl, (refl, ((refl, refl), (refl, (refl, refl, refl))))), ((refl, refl, (refl, refl, refl)), ((refl, refl, (refl, (refl, refl))), ((refl, refl, (refl, refl, refl)), ((refl, refl, (refl, refl)), ((refl, refl, (refl, (refl, refl))), ((refl, refl, (refl, ((refl, refl), refl, refl))), ((refl, refl, (refl, ((refl, refl), refl, refl))), ((refl, refl, (refl, ((refl, refl), refl, refl))), ((refl, refl, (refl, ((refl, refl), refl, refl))), ((refl, refl, (refl, ((refl, refl), refl, refl))), ((refl, refl, (refl, (refl, refl))), ((refl, refl, (refl, refl, refl)), ((refl, refl, (refl, refl)), ((refl, refl, (refl, (refl, refl))), ((refl, refl, (refl, refl)), ((refl, refl, (refl, (refl, refl))), ((refl, refl, refl), tt))))))))))))))))))))))))))))))))))))))))))
+ground = ((refl, refl, (refl, refl, refl)), ((refl, refl, (refl, ((refl, refl), (refl, refl, refl)))), ((refl, refl, (refl, ((refl, refl), refl, refl))), ((refl, refl, (refl, ((refl, refl), refl, refl))), ((refl, refl, (refl, ((refl, refl), refl, refl))), ((refl, refl, (refl, ((refl, refl), (refl, refl, refl)))), ((refl, refl, (refl, ((refl, refl), refl, refl, refl))), ((refl, refl, (refl, (refl, refl))), ((refl, refl, (refl, refl, refl)), ((refl, refl, (refl, ((refl, refl), (refl, refl, refl)))), ((refl, refl, (refl, ((refl, refl), refl, refl))), ((refl, refl, (refl, ((refl, refl), refl, refl))), ((refl, refl, (refl, ((refl, refl), refl, refl))), ((refl, refl, (refl, ((refl, refl), (refl, refl, refl)))), ((refl, refl, (refl, ((refl, refl), refl, refl, refl))), ((refl, refl, (refl, (refl, refl))), ((refl, refl, (refl, refl, refl)), ((refl, refl, (refl, ((refl, refl), (refl, refl, refl)))), ((refl, refl, (refl, ((refl, refl), refl, refl))), ((refl, refl, (refl, ((refl, refl), refl, refl))), ((refl, refl, (refl, refl, refl)), ((refl, refl, (refl, ((refl, refl), (refl, refl, refl)))), ((refl, refl, (refl, ((refl, refl), refl, refl))), ((refl, refl, (refl, ((refl, refl), refl, refl))), ((refl, refl, refl), ((refl, refl, (refl, (refl, refl))), ((refl, refl, (refl, ((refl, refl), refl))), ((refl, refl, (refl, refl)), ((refl, refl, (refl, ((refl, refl), refl, refl))), ((refl, refl, (refl, ((refl, refl), refl, refl))), ((refl, refl, (refl, ((refl, refl), (refl, refl, refl)))), ((refl, refl, (refl, ((refl, refl), refl, refl, refl))), ((refl, refl, (refl, (refl, refl))), ((refl, refl, (refl, refl, refl)), ((refl, refl, (refl, (refl, refl))), ((refl, refl, (refl, refl, refl)), ((refl, refl, (refl, ((refl, refl), (refl, refl, refl)))), ((refl, refl, (refl, ((refl, refl), refl, refl))), ((refl, refl, (refl, ((refl, refl), refl, refl))), ((refl, refl, (refl, ((refl, refl), refl, refl))), ((refl, refl, (refl, (refl, refl))), ((refl, refl, (refl, refl)), ((refl, refl, (refl, (refl, refl))), ((refl, refl, (refl, refl)), ((refl, refl, (refl, (refl, refl))), ((refl, refl, refl), tt))))))))))))))))))))))))))))))))))))))))))))))
 
 abbrev o0_1 : Point
-o0_1 = record { statement = statement_24; columns = []; floor = 0; left = (Asks (Table (table 1)) Is ∷ TableScan (table 1) Steady 0 ∷ Answer ∷ []); kept = Number 0 }
+o0_1 = record { statement = statement_9; columns = (updated_columns head statement_9); floor = 0; left = (Asks (Table (table 0)) Ix ∷ IndexScan (record { table = table 0; want = Alter; index = index 0; column = 0; range = range (Some (bound (Int (pos 1)) true)) (Some (bound (Int (pos 1)) true)); guarded = false }) None ∷ Changes (table 0) ∷ Answer ∷ []); kept = Found [] }
 
 abbrev o0_2 : Point
-o0_2 = record { statement = statement_24; columns = []; floor = 0; left = (TableScan (table 1) Steady 0 ∷ Answer ∷ []); kept = Number 0 }
+o0_2 = record { statement = statement_9; columns = (updated_columns head statement_9); floor = 0; left = (IndexScan (record { table = table 0; want = Alter; index = index 0; column = 0; range = range (Some (bound (Int (pos 1)) true)) (Some (bound (Int (pos 1)) true)); guarded = false }) None ∷ Changes (table 0) ∷ Answer ∷ []); kept = Found [] }
 
 abbrev o0_3 : Point
-o0_3 = record { statement = statement_24; columns = []; floor = 0; left = (TableScan (table 1) Steady 1 ∷ Answer ∷ []); kept = Number 1 }
+o0_3 = record { statement = statement_9; columns = (updated_columns head statement_9); floor = 0; left = (EntryLook (record { table = table 0; want = Alter; index = index 0; column = 0; range = range (Some (bound (Int (pos 1)) true)) (Some (bound (Int (pos 1)) true)); guarded = false }) (Int (pos 1)) (rid 0) ∷ Changes (table 0) ∷ Answer ∷ []); kept = Found [] }
 
 abbrev o0_4 : Point
-o0_4 = record { statement = statement_24; columns = []; floor = 0; left = (TableScan (table 1) Steady 2 ∷ Answer ∷ []); kept = Number 2 }
+o0_4 = record { statement = statement_9; columns = (updated_columns head statement_9); floor = 0; left = (IndexScan (record { table = table 0; want = Alter; index = index 0; column = 0; range = range (Some (bound (Int (pos 1)) true)) (Some (bound (Int (pos 1)) true)); guarded = false }) (Some ((Int (pos 1)), rid 0)) ∷ Changes (table 0) ∷ Answer ∷ []); kept = Found ((rid 0, ((Int (pos 1)) ∷ (Int (pos 100)) ∷ [])) ∷ []) }
 
 abbrev o0_5 : Point
-o0_5 = record { statement = statement_24; columns = []; floor = 0; left = (Answer ∷ []); kept = Number 2 }
+o0_5 = record { statement = statement_9; columns = (updated_columns head statement_9); floor = 0; left = (Asks (Row (table 0) (rid 0)) X ∷ RowUpdate (table 0) (rid 0) ((Int (pos 1)) ∷ (Int (pos 1)) ∷ []) ∷ Answer ∷ []); kept = Found ((rid 0, ((Int (pos 1)) ∷ (Int (pos 100)) ∷ [])) ∷ []) }
 
-abbrev o0_15 : Point
-o0_15 = record { statement = statement_26; columns = []; floor = 1; left = (Asks (Table (table 0)) Is ∷ TableScan (table 0) Steady 0 ∷ Answer ∷ []); kept = Number 0 }
+abbrev o0_6 : Point
+o0_6 = record { statement = statement_9; columns = (updated_columns head statement_9); floor = 0; left = (RowUpdate (table 0) (rid 0) ((Int (pos 1)) ∷ (Int (pos 1)) ∷ []) ∷ Answer ∷ []); kept = Found ((rid 0, ((Int (pos 1)) ∷ (Int (pos 100)) ∷ [])) ∷ []) }
 
-abbrev o0_16 : Point
-o0_16 = record { statement = statement_26; columns = []; floor = 1; left = (TableScan (table 0) Steady 0 ∷ Answer ∷ []); kept = Number 0 }
+abbrev o0_7 : Point
+o0_7 = record { statement = statement_9; columns = (updated_columns head statement_9); floor = 0; left = (Answer ∷ []); kept = Found ((rid 0, ((Int (pos 1)) ∷ (Int (pos 100)) ∷ [])) ∷ []) }
 
 abbrev o0_17 : Point
-o0_17 = record { statement = statement_26; columns = []; floor = 1; left = (TableScan (table 0) Steady 1 ∷ Answer ∷ []); kept = Number 1 }
+o0_17 = record { statement = statement_11; columns = (updated_columns head statement_11); floor = 2; left = (Asks (Table (table 0)) Ix ∷ IndexScan (record { table = table 0; want = Alter; index = index 0; column = 0; range = range (Some (bound (Int (pos 2)) true)) (Some (bound (Int (pos 2)) true)); guarded = false }) None ∷ Changes (table 0) ∷ Answer ∷ []); kept = Found [] }
 
 abbrev o0_18 : Point
-o0_18 = record { statement = statement_26; columns = []; floor = 1; left = (TableScan (table 0) Steady 2 ∷ Answer ∷ []); kept = Number 2 }
+o0_18 = record { statement = statement_11; columns = (updated_columns head statement_11); floor = 2; left = (IndexScan (record { table = table 0; want = Alter; index = index 0; column = 0; range = range (Some (bound (Int (pos 2)) true)) (Some (bound (Int (pos 2)) true)); guarded = false }) None ∷ Changes (table 0) ∷ Answer ∷ []); kept = Found [] }
 
 abbrev o0_19 : Point
-o0_19 = record { statement = statement_26; columns = []; floor = 1; left = (TableScan (table 0) Steady 3 ∷ Answer ∷ []); kept = Number 3 }
+o0_19 = record { statement = statement_11; columns = (updated_columns head statement_11); floor = 2; left = (EntryLook (record { table = table 0; want = Alter; index = index 0; column = 0; range = range (Some (bound (Int (pos 2)) true)) (Some (bound (Int (pos 2)) true)); guarded = false }) (Int (pos 2)) (rid 1) ∷ Changes (table 0) ∷ Answer ∷ []); kept = Found [] }
 
 abbrev o0_20 : Point
-o0_20 = record { statement = statement_26; columns = []; floor = 1; left = (TableScan (table 0) Steady 4 ∷ Answer ∷ []); kept = Number 4 }
+o0_20 = record { statement = statement_11; columns = (updated_columns head statement_11); floor = 2; left = (Claims ∷ EntryLook (record { table = table 0; want = Alter; index = index 0; column = 0; range = range (Some (bound (Int (pos 2)) true)) (Some (bound (Int (pos 2)) true)); guarded = false }) (Int (pos 2)) (rid 1) ∷ Changes (table 0) ∷ Answer ∷ []); kept = Found [] }
 
-abbrev o0_21 : Point
-o0_21 = record { statement = statement_26; columns = []; floor = 1; left = (TableScan (table 0) Steady 5 ∷ Answer ∷ []); kept = Number 5 }
-
-abbrev o0_22 : Point
-o0_22 = record { statement = statement_26; columns = []; floor = 1; left = (TableScan (table 0) Steady 6 ∷ Answer ∷ []); kept = Number 6 }
-
-abbrev o0_23 : Point
-o0_23 = record { statement = statement_26; columns = []; floor = 1; left = (TableScan (table 0) Steady 7 ∷ Answer ∷ []); kept = Number 7 }
-
-abbrev o0_24 : Point
-o0_24 = record { statement = statement_26; columns = []; floor = 1; left = (TableScan (table 0) Steady 8 ∷ Answer ∷ []); kept = Number 8 }
-
-abbrev o0_25 : Point
-o0_25 = record { statement = statement_26; columns = []; floor = 1; left = (Claims ∷ Collapses (table 0) ∷ TableScan (table 0) Steady 8 ∷ Answer ∷ []); kept = Number 8 }
+abbrev o0_28 : Point
+o0_28 = record { statement = statement_11; columns = (updated_columns head statement_11); floor = 2; left = (EntryLook (record { table = table 0; want = Alter; index = index 0; column = 0; range = range (Some (bound (Int (pos 2)) true)) (Some (bound (Int (pos 2)) true)); guarded = false }) (Int (pos 2)) (rid 1) ∷ Changes (table 0) ∷ Answer ∷ []); kept = Found [] }
 
 abbrev o0_29 : Point
-o0_29 = record { statement = statement_26; columns = []; floor = 1; left = (Collapses (table 0) ∷ TableScan (table 0) Steady 8 ∷ Answer ∷ []); kept = Number 8 }
+o0_29 = record { statement = statement_11; columns = (updated_columns head statement_11); floor = 2; left = (IndexScan (record { table = table 0; want = Alter; index = index 0; column = 0; range = range (Some (bound (Int (pos 2)) true)) (Some (bound (Int (pos 2)) true)); guarded = false }) (Some ((Int (pos 2)), rid 1)) ∷ Changes (table 0) ∷ Answer ∷ []); kept = Found ((rid 1, ((Int (pos 2)) ∷ (Int (pos 200)) ∷ [])) ∷ []) }
 
 abbrev o0_30 : Point
-o0_30 = record { statement = statement_26; columns = []; floor = 1; left = (TableScan (table 0) Steady 8 ∷ Answer ∷ []); kept = Number 8 }
+o0_30 = record { statement = statement_11; columns = (updated_columns head statement_11); floor = 2; left = (Asks (Row (table 0) (rid 1)) X ∷ RowUpdate (table 0) (rid 1) ((Int (pos 2)) ∷ (Int (pos 1)) ∷ []) ∷ Answer ∷ []); kept = Found ((rid 1, ((Int (pos 2)) ∷ (Int (pos 200)) ∷ [])) ∷ []) }
 
 abbrev o0_31 : Point
-o0_31 = record { statement = statement_26; columns = []; floor = 1; left = (TableScan (table 0) Steady 9 ∷ Answer ∷ []); kept = Number 9 }
+o0_31 = record { statement = statement_11; columns = (updated_columns head statement_11); floor = 2; left = (RowUpdate (table 0) (rid 1) ((Int (pos 2)) ∷ (Int (pos 1)) ∷ []) ∷ Answer ∷ []); kept = Found ((rid 1, ((Int (pos 2)) ∷ (Int (pos 200)) ∷ [])) ∷ []) }
 
 abbrev o0_32 : Point
-o0_32 = record { statement = statement_26; columns = []; floor = 1; left = (TableScan (table 0) Steady 10 ∷ Answer ∷ []); kept = Number 10 }
-
-abbrev o0_33 : Point
-o0_33 = record { statement = statement_26; columns = []; floor = 1; left = (TableScan (table 0) Steady 11 ∷ Answer ∷ []); kept = Number 11 }
+o0_32 = record { statement = statement_11; columns = (updated_columns head statement_11); floor = 2; left = (Answer ∷ []); kept = Found ((rid 1, ((Int (pos 2)) ∷ (Int (pos 200)) ∷ [])) ∷ []) }
 
 abbrev o0_34 : Point
-o0_34 = record { statement = statement_26; columns = []; floor = 1; left = (TableScan (table 0) Steady 12 ∷ Answer ∷ []); kept = Number 11 }
+o0_34 = record { statement = statement_13; columns = []; floor = 4; left = (Settles ∷ []); kept = Found [] }
 
-abbrev o0_35 : Point
-o0_35 = record { statement = statement_26; columns = []; floor = 1; left = (Answer ∷ []); kept = Number 11 }
+from0_46 : ConductFrom head lines w_46 (conn 0) None rest_46
+unfolding mode_number mode_eq goes_with compatible joined at_least covers escalated value_cmp value_eq value_lt name_eq is_hold_of opposes stands_before world_from world is_table_mode is_row_mode table_mode ConductFrom
+from0_46 = tt
+
+from0_45 : ConductFrom head lines w_45 (conn 0) None rest_45
+unfolding mode_number mode_eq goes_with compatible joined at_least covers escalated value_cmp value_eq value_lt name_eq is_hold_of opposes stands_before world_from world is_table_mode is_row_mode table_mode
+from0_45 = link head lines w_45 (conn 0) None e_45 rest_46 None (λ h. not_own h) (refl) from0_46
+
+from0_44 : ConductFrom head lines w_44 (conn 0) None rest_44
+unfolding mode_number mode_eq goes_with compatible joined at_least covers escalated value_cmp value_eq value_lt name_eq is_hold_of opposes stands_before world_from world is_table_mode is_row_mode table_mode
+from0_44 = link head lines w_44 (conn 0) None e_44 rest_45 None (λ h. not_own h) (refl) from0_45
+
+from0_43 : ConductFrom head lines w_43 (conn 0) None rest_43
+unfolding mode_number mode_eq goes_with compatible joined at_least covers escalated value_cmp value_eq value_lt name_eq is_hold_of opposes stands_before world_from world is_table_mode is_row_mode table_mode
+from0_43 = link head lines w_43 (conn 0) None e_43 rest_44 None (λ h. not_own h) (refl) from0_44
 
 from0_42 : ConductFrom head lines w_42 (conn 0) None rest_42
-unfolding mode_number mode_eq goes_with compatible joined at_least covers escalated value_cmp value_eq value_lt name_eq is_hold_of opposes stands_before world_from world is_table_mode is_row_mode table_mode ConductFrom
-from0_42 = tt
+unfolding mode_number mode_eq goes_with compatible joined at_least covers escalated value_cmp value_eq value_lt name_eq is_hold_of opposes stands_before world_from world is_table_mode is_row_mode table_mode
+from0_42 = link head lines w_42 (conn 0) None e_42 rest_43 None (λ h. refl) (refl) from0_43
 
 from0_41 : ConductFrom head lines w_41 (conn 0) None rest_41
 unfolding mode_number mode_eq goes_with compatible joined at_least covers escalated value_cmp value_eq value_lt name_eq is_hold_of opposes stands_before world_from world is_table_mode is_row_mode table_mode
@@ -598,7 +659,7 @@ from0_39 = link head lines w_39 (conn 0) None e_39 rest_40 None (λ h. not_own h
 
 from0_38 : ConductFrom head lines w_38 (conn 0) None rest_38
 unfolding mode_number mode_eq goes_with compatible joined at_least covers escalated value_cmp value_eq value_lt name_eq is_hold_of opposes stands_before world_from world is_table_mode is_row_mode table_mode
-from0_38 = link head lines w_38 (conn 0) None e_38 rest_39 None (λ h. refl) (refl) from0_39
+from0_38 = link head lines w_38 (conn 0) None e_38 rest_39 None (λ h. not_own h) (refl) from0_39
 
 from0_37 : ConductFrom head lines w_37 (conn 0) None rest_37
 unfolding mode_number mode_eq goes_with compatible joined at_least covers escalated value_cmp value_eq value_lt name_eq is_hold_of opposes stands_before world_from world is_table_mode is_row_mode table_mode
@@ -608,89 +669,89 @@ from0_36 : ConductFrom head lines w_36 (conn 0) None rest_36
 unfolding mode_number mode_eq goes_with compatible joined at_least covers escalated value_cmp value_eq value_lt name_eq is_hold_of opposes stands_before world_from world is_table_mode is_row_mode table_mode
 from0_36 = link head lines w_36 (conn 0) None e_36 rest_37 None (λ h. not_own h) (refl) from0_37
 
-from0_35 : ConductFrom head lines w_35 (conn 0) (Some o0_35) rest_35
+from0_35 : ConductFrom head lines w_35 (conn 0) None rest_35
 unfolding mode_number mode_eq goes_with compatible joined at_least covers escalated value_cmp value_eq value_lt name_eq is_hold_of opposes stands_before world_from world is_table_mode is_row_mode table_mode
-from0_35 = link head lines w_35 (conn 0) (Some o0_35) e_35 rest_36 None (λ h k. refl) (refl) from0_36
+from0_35 = link head lines w_35 (conn 0) None e_35 rest_36 None (λ h. not_own h) (refl) from0_36
 
-from0_34 : ConductFrom head lines w_34 (conn 0) (Some o0_34) rest_34
+from0_34 : ConductFrom head lines w_34 (conn 0) None rest_34
 unfolding mode_number mode_eq goes_with compatible joined at_least covers escalated value_cmp value_eq value_lt name_eq is_hold_of opposes stands_before world_from world is_table_mode is_row_mode table_mode
-from0_34 = link head lines w_34 (conn 0) (Some o0_34) e_34 rest_35 (Some o0_35) (λ h k. refl) (refl) from0_35
+from0_34 = begins head lines w_34 (conn 0) o0_34 e_34 rest_35 refl (refl) (link head lines w_34 (conn 0) (Some o0_34) e_34 rest_35 None (λ h k. refl) (refl) from0_35)
 
-from0_33 : ConductFrom head lines w_33 (conn 0) (Some o0_33) rest_33
+from0_33 : ConductFrom head lines w_33 (conn 0) None rest_33
 unfolding mode_number mode_eq goes_with compatible joined at_least covers escalated value_cmp value_eq value_lt name_eq is_hold_of opposes stands_before world_from world is_table_mode is_row_mode table_mode
-from0_33 = link head lines w_33 (conn 0) (Some o0_33) e_33 rest_34 (Some o0_34) (λ h k. refl) (refl) from0_34
+from0_33 = link head lines w_33 (conn 0) None e_33 rest_34 None (λ h. not_own h) (refl) from0_34
 
 from0_32 : ConductFrom head lines w_32 (conn 0) (Some o0_32) rest_32
 unfolding mode_number mode_eq goes_with compatible joined at_least covers escalated value_cmp value_eq value_lt name_eq is_hold_of opposes stands_before world_from world is_table_mode is_row_mode table_mode
-from0_32 = link head lines w_32 (conn 0) (Some o0_32) e_32 rest_33 (Some o0_33) (λ h k. refl) (ap (λ x. past_look head lines w_32 (conn 0) o0_32 (table 0) (rid 10) Steady x) (ap is_true (truth_26 ((Int (pos 11)) ∷ [])))) from0_33
+from0_32 = link head lines w_32 (conn 0) (Some o0_32) e_32 rest_33 None (λ h k. refl) (refl) from0_33
 
 from0_31 : ConductFrom head lines w_31 (conn 0) (Some o0_31) rest_31
 unfolding mode_number mode_eq goes_with compatible joined at_least covers escalated value_cmp value_eq value_lt name_eq is_hold_of opposes stands_before world_from world is_table_mode is_row_mode table_mode
-from0_31 = link head lines w_31 (conn 0) (Some o0_31) e_31 rest_32 (Some o0_32) (λ h k. refl) (ap (λ x. past_look head lines w_31 (conn 0) o0_31 (table 0) (rid 9) Steady x) (ap is_true (truth_26 ((Int (pos 10)) ∷ [])))) from0_32
+from0_31 = link head lines w_31 (conn 0) (Some o0_31) e_31 rest_32 (Some o0_32) (λ h k. refl) (refl) from0_32
 
 from0_30 : ConductFrom head lines w_30 (conn 0) (Some o0_30) rest_30
 unfolding mode_number mode_eq goes_with compatible joined at_least covers escalated value_cmp value_eq value_lt name_eq is_hold_of opposes stands_before world_from world is_table_mode is_row_mode table_mode
-from0_30 = link head lines w_30 (conn 0) (Some o0_30) e_30 rest_31 (Some o0_31) (λ h k. refl) (ap (λ x. past_look head lines w_30 (conn 0) o0_30 (table 0) (rid 8) Steady x) (ap is_true (truth_26 ((Int (pos 9)) ∷ [])))) from0_31
+from0_30 = link head lines w_30 (conn 0) (Some o0_30) e_30 rest_31 (Some o0_31) (λ h k. refl) (refl) from0_31
 
 from0_29 : ConductFrom head lines w_29 (conn 0) (Some o0_29) rest_29
 unfolding mode_number mode_eq goes_with compatible joined at_least covers escalated value_cmp value_eq value_lt name_eq is_hold_of opposes stands_before world_from world is_table_mode is_row_mode table_mode
 from0_29 = link head lines w_29 (conn 0) (Some o0_29) e_29 rest_30 (Some o0_30) (λ h k. refl) (refl) from0_30
 
-from0_28 : ConductFrom head lines w_28 (conn 0) (Some o0_25) rest_28
+from0_28 : ConductFrom head lines w_28 (conn 0) (Some o0_28) rest_28
 unfolding mode_number mode_eq goes_with compatible joined at_least covers escalated value_cmp value_eq value_lt name_eq is_hold_of opposes stands_before world_from world is_table_mode is_row_mode table_mode
-from0_28 = link head lines w_28 (conn 0) (Some o0_25) e_28 rest_29 (Some o0_29) (λ h k. refl) (refl) from0_29
+from0_28 = link head lines w_28 (conn 0) (Some o0_28) e_28 rest_29 (Some o0_29) (λ h k. refl) (ap (λ x. past_look head lines w_28 (conn 0) o0_28 (table 0) (rid 1) Alter x) (ap is_true (truth_11 ((Int (pos 2)) ∷ (Int (pos 200)) ∷ [])))) from0_29
 
-from0_27 : ConductFrom head lines w_27 (conn 0) (Some o0_25) rest_27
+from0_27 : ConductFrom head lines w_27 (conn 0) (Some o0_20) rest_27
 unfolding mode_number mode_eq goes_with compatible joined at_least covers escalated value_cmp value_eq value_lt name_eq is_hold_of opposes stands_before world_from world is_table_mode is_row_mode table_mode
-from0_27 = link head lines w_27 (conn 0) (Some o0_25) e_27 rest_28 (Some o0_25) (λ h. not_own h) (refl) from0_28
+from0_27 = link head lines w_27 (conn 0) (Some o0_20) e_27 rest_28 (Some o0_28) (λ h k. refl) (refl) from0_28
 
-from0_26 : ConductFrom head lines w_26 (conn 0) (Some o0_25) rest_26
+from0_26 : ConductFrom head lines w_26 (conn 0) (Some o0_20) rest_26
 unfolding mode_number mode_eq goes_with compatible joined at_least covers escalated value_cmp value_eq value_lt name_eq is_hold_of opposes stands_before world_from world is_table_mode is_row_mode table_mode
-from0_26 = link head lines w_26 (conn 0) (Some o0_25) e_26 rest_27 (Some o0_25) (λ h. not_own h) (refl) from0_27
+from0_26 = link head lines w_26 (conn 0) (Some o0_20) e_26 rest_27 (Some o0_20) (λ h. not_own h) (refl) from0_27
 
-from0_25 : ConductFrom head lines w_25 (conn 0) (Some o0_25) rest_25
+from0_25 : ConductFrom head lines w_25 (conn 0) (Some o0_20) rest_25
 unfolding mode_number mode_eq goes_with compatible joined at_least covers escalated value_cmp value_eq value_lt name_eq is_hold_of opposes stands_before world_from world is_table_mode is_row_mode table_mode
-from0_25 = link head lines w_25 (conn 0) (Some o0_25) e_25 rest_26 (Some o0_25) (λ h. not_own h) (refl) from0_26
+from0_25 = link head lines w_25 (conn 0) (Some o0_20) e_25 rest_26 (Some o0_20) (λ h. not_own h) (refl) from0_26
 
-from0_24 : ConductFrom head lines w_24 (conn 0) (Some o0_24) rest_24
+from0_24 : ConductFrom head lines w_24 (conn 0) (Some o0_20) rest_24
 unfolding mode_number mode_eq goes_with compatible joined at_least covers escalated value_cmp value_eq value_lt name_eq is_hold_of opposes stands_before world_from world is_table_mode is_row_mode table_mode
-from0_24 = link head lines w_24 (conn 0) (Some o0_24) e_24 rest_25 (Some o0_25) (λ h k. refl) (refl) from0_25
+from0_24 = link head lines w_24 (conn 0) (Some o0_20) e_24 rest_25 (Some o0_20) (λ h. not_own h) (refl) from0_25
 
-from0_23 : ConductFrom head lines w_23 (conn 0) (Some o0_23) rest_23
+from0_23 : ConductFrom head lines w_23 (conn 0) (Some o0_20) rest_23
 unfolding mode_number mode_eq goes_with compatible joined at_least covers escalated value_cmp value_eq value_lt name_eq is_hold_of opposes stands_before world_from world is_table_mode is_row_mode table_mode
-from0_23 = link head lines w_23 (conn 0) (Some o0_23) e_23 rest_24 (Some o0_24) (λ h k. refl) (ap (λ x. past_look head lines w_23 (conn 0) o0_23 (table 0) (rid 7) Steady x) (ap is_true (truth_26 ((Int (pos 8)) ∷ [])))) from0_24
+from0_23 = link head lines w_23 (conn 0) (Some o0_20) e_23 rest_24 (Some o0_20) (λ h. not_own h) (refl) from0_24
 
-from0_22 : ConductFrom head lines w_22 (conn 0) (Some o0_22) rest_22
+from0_22 : ConductFrom head lines w_22 (conn 0) (Some o0_20) rest_22
 unfolding mode_number mode_eq goes_with compatible joined at_least covers escalated value_cmp value_eq value_lt name_eq is_hold_of opposes stands_before world_from world is_table_mode is_row_mode table_mode
-from0_22 = link head lines w_22 (conn 0) (Some o0_22) e_22 rest_23 (Some o0_23) (λ h k. refl) (ap (λ x. past_look head lines w_22 (conn 0) o0_22 (table 0) (rid 6) Steady x) (ap is_true (truth_26 ((Int (pos 7)) ∷ [])))) from0_23
+from0_22 = link head lines w_22 (conn 0) (Some o0_20) e_22 rest_23 (Some o0_20) (λ h. not_own h) (refl) from0_23
 
-from0_21 : ConductFrom head lines w_21 (conn 0) (Some o0_21) rest_21
+from0_21 : ConductFrom head lines w_21 (conn 0) (Some o0_20) rest_21
 unfolding mode_number mode_eq goes_with compatible joined at_least covers escalated value_cmp value_eq value_lt name_eq is_hold_of opposes stands_before world_from world is_table_mode is_row_mode table_mode
-from0_21 = link head lines w_21 (conn 0) (Some o0_21) e_21 rest_22 (Some o0_22) (λ h k. refl) (ap (λ x. past_look head lines w_21 (conn 0) o0_21 (table 0) (rid 5) Steady x) (ap is_true (truth_26 ((Int (pos 6)) ∷ [])))) from0_22
+from0_21 = link head lines w_21 (conn 0) (Some o0_20) e_21 rest_22 (Some o0_20) (λ h. not_own h) (refl) from0_22
 
 from0_20 : ConductFrom head lines w_20 (conn 0) (Some o0_20) rest_20
 unfolding mode_number mode_eq goes_with compatible joined at_least covers escalated value_cmp value_eq value_lt name_eq is_hold_of opposes stands_before world_from world is_table_mode is_row_mode table_mode
-from0_20 = link head lines w_20 (conn 0) (Some o0_20) e_20 rest_21 (Some o0_21) (λ h k. refl) (ap (λ x. past_look head lines w_20 (conn 0) o0_20 (table 0) (rid 4) Steady x) (ap is_true (truth_26 ((Int (pos 5)) ∷ [])))) from0_21
+from0_20 = link head lines w_20 (conn 0) (Some o0_20) e_20 rest_21 (Some o0_20) (λ h. not_own h) (refl) from0_21
 
 from0_19 : ConductFrom head lines w_19 (conn 0) (Some o0_19) rest_19
 unfolding mode_number mode_eq goes_with compatible joined at_least covers escalated value_cmp value_eq value_lt name_eq is_hold_of opposes stands_before world_from world is_table_mode is_row_mode table_mode
-from0_19 = link head lines w_19 (conn 0) (Some o0_19) e_19 rest_20 (Some o0_20) (λ h k. refl) (ap (λ x. past_look head lines w_19 (conn 0) o0_19 (table 0) (rid 3) Steady x) (ap is_true (truth_26 ((Int (pos 4)) ∷ [])))) from0_20
+from0_19 = link head lines w_19 (conn 0) (Some o0_19) e_19 rest_20 (Some o0_20) (λ h k. refl) (refl) from0_20
 
 from0_18 : ConductFrom head lines w_18 (conn 0) (Some o0_18) rest_18
 unfolding mode_number mode_eq goes_with compatible joined at_least covers escalated value_cmp value_eq value_lt name_eq is_hold_of opposes stands_before world_from world is_table_mode is_row_mode table_mode
-from0_18 = link head lines w_18 (conn 0) (Some o0_18) e_18 rest_19 (Some o0_19) (λ h k. refl) (ap (λ x. past_look head lines w_18 (conn 0) o0_18 (table 0) (rid 2) Steady x) (ap is_true (truth_26 ((Int (pos 3)) ∷ [])))) from0_19
+from0_18 = link head lines w_18 (conn 0) (Some o0_18) e_18 rest_19 (Some o0_19) (λ h k. refl) (refl) from0_19
 
-from0_17 : ConductFrom head lines w_17 (conn 0) (Some o0_17) rest_17
+from0_17 : ConductFrom head lines w_17 (conn 0) None rest_17
 unfolding mode_number mode_eq goes_with compatible joined at_least covers escalated value_cmp value_eq value_lt name_eq is_hold_of opposes stands_before world_from world is_table_mode is_row_mode table_mode
-from0_17 = link head lines w_17 (conn 0) (Some o0_17) e_17 rest_18 (Some o0_18) (λ h k. refl) (ap (λ x. past_look head lines w_17 (conn 0) o0_17 (table 0) (rid 1) Steady x) (ap is_true (truth_26 ((Int (pos 2)) ∷ [])))) from0_18
+from0_17 = begins head lines w_17 (conn 0) o0_17 e_17 rest_18 refl (ap (λ x. Some (begun head w_17 (conn 0) statement_11 (change_list head (table 0) (level_in (w_17.setting (conn 0)) None) x))) plan_11) (link head lines w_17 (conn 0) (Some o0_17) e_17 rest_18 (Some o0_18) (λ h k. refl) (refl) from0_18)
 
-from0_16 : ConductFrom head lines w_16 (conn 0) (Some o0_16) rest_16
+from0_16 : ConductFrom head lines w_16 (conn 0) None rest_16
 unfolding mode_number mode_eq goes_with compatible joined at_least covers escalated value_cmp value_eq value_lt name_eq is_hold_of opposes stands_before world_from world is_table_mode is_row_mode table_mode
-from0_16 = link head lines w_16 (conn 0) (Some o0_16) e_16 rest_17 (Some o0_17) (λ h k. refl) (ap (λ x. past_look head lines w_16 (conn 0) o0_16 (table 0) (rid 0) Steady x) (ap is_true (truth_26 ((Int (pos 1)) ∷ [])))) from0_17
+from0_16 = link head lines w_16 (conn 0) None e_16 rest_17 None (λ h. not_own h) (refl) from0_17
 
 from0_15 : ConductFrom head lines w_15 (conn 0) None rest_15
 unfolding mode_number mode_eq goes_with compatible joined at_least covers escalated value_cmp value_eq value_lt name_eq is_hold_of opposes stands_before world_from world is_table_mode is_row_mode table_mode
-from0_15 = begins head lines w_15 (conn 0) o0_15 e_15 rest_16 refl (ap (λ x. Some (begun head w_15 (conn 0) statement_26 (select_list head (table 0) (level_in (w_15.setting (conn 0)) None) x))) plan_26) (link head lines w_15 (conn 0) (Some o0_15) e_15 rest_16 (Some o0_16) (λ h k. refl) (refl) from0_16)
+from0_15 = link head lines w_15 (conn 0) None e_15 rest_16 None (λ h. not_own h) (refl) from0_16
 
 from0_14 : ConductFrom head lines w_14 (conn 0) None rest_14
 unfolding mode_number mode_eq goes_with compatible joined at_least covers escalated value_cmp value_eq value_lt name_eq is_hold_of opposes stands_before world_from world is_table_mode is_row_mode table_mode
@@ -720,17 +781,17 @@ from0_8 : ConductFrom head lines w_8 (conn 0) None rest_8
 unfolding mode_number mode_eq goes_with compatible joined at_least covers escalated value_cmp value_eq value_lt name_eq is_hold_of opposes stands_before world_from world is_table_mode is_row_mode table_mode
 from0_8 = link head lines w_8 (conn 0) None e_8 rest_9 None (λ h. not_own h) (refl) from0_9
 
-from0_7 : ConductFrom head lines w_7 (conn 0) None rest_7
+from0_7 : ConductFrom head lines w_7 (conn 0) (Some o0_7) rest_7
 unfolding mode_number mode_eq goes_with compatible joined at_least covers escalated value_cmp value_eq value_lt name_eq is_hold_of opposes stands_before world_from world is_table_mode is_row_mode table_mode
-from0_7 = link head lines w_7 (conn 0) None e_7 rest_8 None (λ h. not_own h) (refl) from0_8
+from0_7 = link head lines w_7 (conn 0) (Some o0_7) e_7 rest_8 None (λ h k. refl) (refl) from0_8
 
-from0_6 : ConductFrom head lines w_6 (conn 0) None rest_6
+from0_6 : ConductFrom head lines w_6 (conn 0) (Some o0_6) rest_6
 unfolding mode_number mode_eq goes_with compatible joined at_least covers escalated value_cmp value_eq value_lt name_eq is_hold_of opposes stands_before world_from world is_table_mode is_row_mode table_mode
-from0_6 = link head lines w_6 (conn 0) None e_6 rest_7 None (λ h. not_own h) (refl) from0_7
+from0_6 = link head lines w_6 (conn 0) (Some o0_6) e_6 rest_7 (Some o0_7) (λ h k. refl) (refl) from0_7
 
 from0_5 : ConductFrom head lines w_5 (conn 0) (Some o0_5) rest_5
 unfolding mode_number mode_eq goes_with compatible joined at_least covers escalated value_cmp value_eq value_lt name_eq is_hold_of opposes stands_before world_from world is_table_mode is_row_mode table_mode
-from0_5 = link head lines w_5 (conn 0) (Some o0_5) e_5 rest_6 None (λ h k. refl) (refl) from0_6
+from0_5 = link head lines w_5 (conn 0) (Some o0_5) e_5 rest_6 (Some o0_6) (λ h k. refl) (refl) from0_6
 
 from0_4 : ConductFrom head lines w_4 (conn 0) (Some o0_4) rest_4
 unfolding mode_number mode_eq goes_with compatible joined at_least covers escalated value_cmp value_eq value_lt name_eq is_hold_of opposes stands_before world_from world is_table_mode is_row_mode table_mode
@@ -738,15 +799,15 @@ from0_4 = link head lines w_4 (conn 0) (Some o0_4) e_4 rest_5 (Some o0_5) (λ h 
 
 from0_3 : ConductFrom head lines w_3 (conn 0) (Some o0_3) rest_3
 unfolding mode_number mode_eq goes_with compatible joined at_least covers escalated value_cmp value_eq value_lt name_eq is_hold_of opposes stands_before world_from world is_table_mode is_row_mode table_mode
-from0_3 = link head lines w_3 (conn 0) (Some o0_3) e_3 rest_4 (Some o0_4) (λ h k. refl) (ap (λ x. past_look head lines w_3 (conn 0) o0_3 (table 1) (rid 1) Steady x) (ap is_true (truth_24 ((Int (pos 2)) ∷ [])))) from0_4
+from0_3 = link head lines w_3 (conn 0) (Some o0_3) e_3 rest_4 (Some o0_4) (λ h k. refl) (ap (λ x. past_look head lines w_3 (conn 0) o0_3 (table 0) (rid 0) Alter x) (ap is_true (truth_9 ((Int (pos 1)) ∷ (Int (pos 100)) ∷ [])))) from0_4
 
 from0_2 : ConductFrom head lines w_2 (conn 0) (Some o0_2) rest_2
 unfolding mode_number mode_eq goes_with compatible joined at_least covers escalated value_cmp value_eq value_lt name_eq is_hold_of opposes stands_before world_from world is_table_mode is_row_mode table_mode
-from0_2 = link head lines w_2 (conn 0) (Some o0_2) e_2 rest_3 (Some o0_3) (λ h k. refl) (ap (λ x. past_look head lines w_2 (conn 0) o0_2 (table 1) (rid 0) Steady x) (ap is_true (truth_24 ((Int (pos 1)) ∷ [])))) from0_3
+from0_2 = link head lines w_2 (conn 0) (Some o0_2) e_2 rest_3 (Some o0_3) (λ h k. refl) (refl) from0_3
 
 from0_1 : ConductFrom head lines w_1 (conn 0) None rest_1
 unfolding mode_number mode_eq goes_with compatible joined at_least covers escalated value_cmp value_eq value_lt name_eq is_hold_of opposes stands_before world_from world is_table_mode is_row_mode table_mode
-from0_1 = begins head lines w_1 (conn 0) o0_1 e_1 rest_2 refl (ap (λ x. Some (begun head w_1 (conn 0) statement_24 (select_list head (table 1) (level_in (w_1.setting (conn 0)) None) x))) plan_24) (link head lines w_1 (conn 0) (Some o0_1) e_1 rest_2 (Some o0_2) (λ h k. refl) (refl) from0_2)
+from0_1 = begins head lines w_1 (conn 0) o0_1 e_1 rest_2 refl (ap (λ x. Some (begun head w_1 (conn 0) statement_9 (change_list head (table 0) (level_in (w_1.setting (conn 0)) None) x))) plan_9) (link head lines w_1 (conn 0) (Some o0_1) e_1 rest_2 (Some o0_2) (λ h k. refl) (refl) from0_2)
 
 from0_0 : ConductFrom head lines w_0 (conn 0) None rest_0
 unfolding mode_number mode_eq goes_with compatible joined at_least covers escalated value_cmp value_eq value_lt name_eq is_hold_of opposes stands_before world_from world is_table_mode is_row_mode table_mode
@@ -756,57 +817,100 @@ conduct_0 : Conduct head lines es (conn 0)
 unfolding Conduct
 conduct_0 = from0_0
 
-abbrev o1_7 : Point
-o1_7 = record { statement = statement_25; columns = []; floor = 0; left = (Asks (Table (table 0)) Ix ∷ IndexScan (record { table = table 0; want = Alter; index = index 0; column = 0; range = range (Some (bound (Int (pos 12)) true)) (Some (bound (Int (pos 12)) true)); guarded = false }) None ∷ Changes (table 0) ∷ Answer ∷ []); kept = Found [] }
-
-abbrev o1_8 : Point
-o1_8 = record { statement = statement_25; columns = []; floor = 0; left = (IndexScan (record { table = table 0; want = Alter; index = index 0; column = 0; range = range (Some (bound (Int (pos 12)) true)) (Some (bound (Int (pos 12)) true)); guarded = false }) None ∷ Changes (table 0) ∷ Answer ∷ []); kept = Found [] }
-
 abbrev o1_9 : Point
-o1_9 = record { statement = statement_25; columns = []; floor = 0; left = (EntryLook (record { table = table 0; want = Alter; index = index 0; column = 0; range = range (Some (bound (Int (pos 12)) true)) (Some (bound (Int (pos 12)) true)); guarded = false }) (Int (pos 12)) (rid 11) ∷ Changes (table 0) ∷ Answer ∷ []); kept = Found [] }
+o1_9 = record { statement = statement_10; columns = (updated_columns head statement_10); floor = 1; left = (Asks (Table (table 0)) Ix ∷ IndexScan (record { table = table 0; want = Alter; index = index 0; column = 0; range = range (Some (bound (Int (pos 2)) true)) (Some (bound (Int (pos 2)) true)); guarded = false }) None ∷ Changes (table 0) ∷ Answer ∷ []); kept = Found [] }
 
 abbrev o1_10 : Point
-o1_10 = record { statement = statement_25; columns = []; floor = 0; left = (IndexScan (record { table = table 0; want = Alter; index = index 0; column = 0; range = range (Some (bound (Int (pos 12)) true)) (Some (bound (Int (pos 12)) true)); guarded = false }) (Some ((Int (pos 12)), rid 11)) ∷ Changes (table 0) ∷ Answer ∷ []); kept = Found ((rid 11, ((Int (pos 12)) ∷ [])) ∷ []) }
+o1_10 = record { statement = statement_10; columns = (updated_columns head statement_10); floor = 1; left = (IndexScan (record { table = table 0; want = Alter; index = index 0; column = 0; range = range (Some (bound (Int (pos 2)) true)) (Some (bound (Int (pos 2)) true)); guarded = false }) None ∷ Changes (table 0) ∷ Answer ∷ []); kept = Found [] }
 
 abbrev o1_11 : Point
-o1_11 = record { statement = statement_25; columns = []; floor = 0; left = (Asks (Row (table 0) (rid 11)) X ∷ RowDelete (table 0) (rid 11) ∷ Answer ∷ []); kept = Found ((rid 11, ((Int (pos 12)) ∷ [])) ∷ []) }
+o1_11 = record { statement = statement_10; columns = (updated_columns head statement_10); floor = 1; left = (EntryLook (record { table = table 0; want = Alter; index = index 0; column = 0; range = range (Some (bound (Int (pos 2)) true)) (Some (bound (Int (pos 2)) true)); guarded = false }) (Int (pos 2)) (rid 1) ∷ Changes (table 0) ∷ Answer ∷ []); kept = Found [] }
 
 abbrev o1_12 : Point
-o1_12 = record { statement = statement_25; columns = []; floor = 0; left = (RowDelete (table 0) (rid 11) ∷ Answer ∷ []); kept = Found ((rid 11, ((Int (pos 12)) ∷ [])) ∷ []) }
+o1_12 = record { statement = statement_10; columns = (updated_columns head statement_10); floor = 1; left = (IndexScan (record { table = table 0; want = Alter; index = index 0; column = 0; range = range (Some (bound (Int (pos 2)) true)) (Some (bound (Int (pos 2)) true)); guarded = false }) (Some ((Int (pos 2)), rid 1)) ∷ Changes (table 0) ∷ Answer ∷ []); kept = Found ((rid 1, ((Int (pos 2)) ∷ (Int (pos 200)) ∷ [])) ∷ []) }
 
 abbrev o1_13 : Point
-o1_13 = record { statement = statement_25; columns = []; floor = 0; left = (Answer ∷ []); kept = Found ((rid 11, ((Int (pos 12)) ∷ [])) ∷ []) }
+o1_13 = record { statement = statement_10; columns = (updated_columns head statement_10); floor = 1; left = (Asks (Row (table 0) (rid 1)) X ∷ RowUpdate (table 0) (rid 1) ((Int (pos 2)) ∷ (Int (pos 2)) ∷ []) ∷ Answer ∷ []); kept = Found ((rid 1, ((Int (pos 2)) ∷ (Int (pos 200)) ∷ [])) ∷ []) }
+
+abbrev o1_14 : Point
+o1_14 = record { statement = statement_10; columns = (updated_columns head statement_10); floor = 1; left = (RowUpdate (table 0) (rid 1) ((Int (pos 2)) ∷ (Int (pos 2)) ∷ []) ∷ Answer ∷ []); kept = Found ((rid 1, ((Int (pos 2)) ∷ (Int (pos 200)) ∷ [])) ∷ []) }
+
+abbrev o1_15 : Point
+o1_15 = record { statement = statement_10; columns = (updated_columns head statement_10); floor = 1; left = (Answer ∷ []); kept = Found ((rid 1, ((Int (pos 2)) ∷ (Int (pos 200)) ∷ [])) ∷ []) }
+
+abbrev o1_21 : Point
+o1_21 = record { statement = statement_12; columns = (updated_columns head statement_12); floor = 2; left = (Asks (Table (table 0)) Ix ∷ IndexScan (record { table = table 0; want = Alter; index = index 0; column = 0; range = range (Some (bound (Int (pos 1)) true)) (Some (bound (Int (pos 1)) true)); guarded = false }) None ∷ Changes (table 0) ∷ Answer ∷ []); kept = Found [] }
+
+abbrev o1_22 : Point
+o1_22 = record { statement = statement_12; columns = (updated_columns head statement_12); floor = 2; left = (IndexScan (record { table = table 0; want = Alter; index = index 0; column = 0; range = range (Some (bound (Int (pos 1)) true)) (Some (bound (Int (pos 1)) true)); guarded = false }) None ∷ Changes (table 0) ∷ Answer ∷ []); kept = Found [] }
+
+abbrev o1_23 : Point
+o1_23 = record { statement = statement_12; columns = (updated_columns head statement_12); floor = 2; left = (EntryLook (record { table = table 0; want = Alter; index = index 0; column = 0; range = range (Some (bound (Int (pos 1)) true)) (Some (bound (Int (pos 1)) true)); guarded = false }) (Int (pos 1)) (rid 0) ∷ Changes (table 0) ∷ Answer ∷ []); kept = Found [] }
+
+abbrev o1_24 : Point
+o1_24 = record { statement = statement_12; columns = (updated_columns head statement_12); floor = 2; left = (Claims ∷ EntryLook (record { table = table 0; want = Alter; index = index 0; column = 0; range = range (Some (bound (Int (pos 1)) true)) (Some (bound (Int (pos 1)) true)); guarded = false }) (Int (pos 1)) (rid 0) ∷ Changes (table 0) ∷ Answer ∷ []); kept = Found [] }
 
 abbrev o1_26 : Point
-o1_26 = record { statement = statement_27; columns = []; floor = 1; left = (Settles ∷ []); kept = Found [] }
+o1_26 = record { statement = statement_12; columns = (updated_columns head statement_12); floor = 2; left = (Undos 0 ∷ Leaves (negsuc 910) 2 ∷ []); kept = Found [] }
+
+abbrev o1_36 : Point
+o1_36 = record { statement = statement_14; columns = []; floor = 4; left = (Asks (Table (table 0)) Is ∷ TableScan (table 0) Current 0 ∷ Answer ∷ []); kept = Given [] }
+
+abbrev o1_37 : Point
+o1_37 = record { statement = statement_14; columns = []; floor = 4; left = (TableScan (table 0) Current 0 ∷ Answer ∷ []); kept = Given [] }
+
+abbrev o1_38 : Point
+o1_38 = record { statement = statement_14; columns = []; floor = 4; left = (TableScan (table 0) Current 1 ∷ Answer ∷ []); kept = Given (((Int (pos 1)) ∷ []) ∷ []) }
+
+abbrev o1_39 : Point
+o1_39 = record { statement = statement_14; columns = []; floor = 4; left = (TableScan (table 0) Current 2 ∷ Answer ∷ []); kept = Given (((Int (pos 1)) ∷ []) ∷ ((Int (pos 1)) ∷ []) ∷ []) }
+
+abbrev o1_40 : Point
+o1_40 = record { statement = statement_14; columns = []; floor = 4; left = (Answer ∷ []); kept = Given (((Int (pos 1)) ∷ []) ∷ ((Int (pos 1)) ∷ []) ∷ []) }
+
+from1_46 : ConductFrom head lines w_46 (conn 1) None rest_46
+unfolding mode_number mode_eq goes_with compatible joined at_least covers escalated value_cmp value_eq value_lt name_eq is_hold_of opposes stands_before world_from world is_table_mode is_row_mode table_mode ConductFrom
+from1_46 = tt
+
+from1_45 : ConductFrom head lines w_45 (conn 1) None rest_45
+unfolding mode_number mode_eq goes_with compatible joined at_least covers escalated value_cmp value_eq value_lt name_eq is_hold_of opposes stands_before world_from world is_table_mode is_row_mode table_mode
+from1_45 = link head lines w_45 (conn 1) None e_45 rest_46 None (λ h. not_own h) (refl) from1_46
+
+from1_44 : ConductFrom head lines w_44 (conn 1) None rest_44
+unfolding mode_number mode_eq goes_with compatible joined at_least covers escalated value_cmp value_eq value_lt name_eq is_hold_of opposes stands_before world_from world is_table_mode is_row_mode table_mode
+from1_44 = link head lines w_44 (conn 1) None e_44 rest_45 None (λ h. refl) (refl) from1_45
+
+from1_43 : ConductFrom head lines w_43 (conn 1) None rest_43
+unfolding mode_number mode_eq goes_with compatible joined at_least covers escalated value_cmp value_eq value_lt name_eq is_hold_of opposes stands_before world_from world is_table_mode is_row_mode table_mode
+from1_43 = link head lines w_43 (conn 1) None e_43 rest_44 None (λ h. not_own h) (refl) from1_44
 
 from1_42 : ConductFrom head lines w_42 (conn 1) None rest_42
-unfolding mode_number mode_eq goes_with compatible joined at_least covers escalated value_cmp value_eq value_lt name_eq is_hold_of opposes stands_before world_from world is_table_mode is_row_mode table_mode ConductFrom
-from1_42 = tt
+unfolding mode_number mode_eq goes_with compatible joined at_least covers escalated value_cmp value_eq value_lt name_eq is_hold_of opposes stands_before world_from world is_table_mode is_row_mode table_mode
+from1_42 = link head lines w_42 (conn 1) None e_42 rest_43 None (λ h. not_own h) (refl) from1_43
 
 from1_41 : ConductFrom head lines w_41 (conn 1) None rest_41
 unfolding mode_number mode_eq goes_with compatible joined at_least covers escalated value_cmp value_eq value_lt name_eq is_hold_of opposes stands_before world_from world is_table_mode is_row_mode table_mode
 from1_41 = link head lines w_41 (conn 1) None e_41 rest_42 None (λ h. not_own h) (refl) from1_42
 
-from1_40 : ConductFrom head lines w_40 (conn 1) None rest_40
+from1_40 : ConductFrom head lines w_40 (conn 1) (Some o1_40) rest_40
 unfolding mode_number mode_eq goes_with compatible joined at_least covers escalated value_cmp value_eq value_lt name_eq is_hold_of opposes stands_before world_from world is_table_mode is_row_mode table_mode
-from1_40 = link head lines w_40 (conn 1) None e_40 rest_41 None (λ h. refl) (refl) from1_41
+from1_40 = link head lines w_40 (conn 1) (Some o1_40) e_40 rest_41 None (λ h k. refl) (refl) from1_41
 
-from1_39 : ConductFrom head lines w_39 (conn 1) None rest_39
+from1_39 : ConductFrom head lines w_39 (conn 1) (Some o1_39) rest_39
 unfolding mode_number mode_eq goes_with compatible joined at_least covers escalated value_cmp value_eq value_lt name_eq is_hold_of opposes stands_before world_from world is_table_mode is_row_mode table_mode
-from1_39 = link head lines w_39 (conn 1) None e_39 rest_40 None (λ h. not_own h) (refl) from1_40
+from1_39 = link head lines w_39 (conn 1) (Some o1_39) e_39 rest_40 (Some o1_40) (λ h k. refl) (refl) from1_40
 
-from1_38 : ConductFrom head lines w_38 (conn 1) None rest_38
+from1_38 : ConductFrom head lines w_38 (conn 1) (Some o1_38) rest_38
 unfolding mode_number mode_eq goes_with compatible joined at_least covers escalated value_cmp value_eq value_lt name_eq is_hold_of opposes stands_before world_from world is_table_mode is_row_mode table_mode
-from1_38 = link head lines w_38 (conn 1) None e_38 rest_39 None (λ h. not_own h) (refl) from1_39
+from1_38 = link head lines w_38 (conn 1) (Some o1_38) e_38 rest_39 (Some o1_39) (λ h k. refl) (ap (λ x. past_look head lines w_38 (conn 1) o1_38 (table 0) (rid 1) Current x) (ap is_true (truth_14 ((Int (pos 2)) ∷ (Int (pos 1)) ∷ [])))) from1_39
 
-from1_37 : ConductFrom head lines w_37 (conn 1) None rest_37
+from1_37 : ConductFrom head lines w_37 (conn 1) (Some o1_37) rest_37
 unfolding mode_number mode_eq goes_with compatible joined at_least covers escalated value_cmp value_eq value_lt name_eq is_hold_of opposes stands_before world_from world is_table_mode is_row_mode table_mode
-from1_37 = link head lines w_37 (conn 1) None e_37 rest_38 None (λ h. not_own h) (refl) from1_38
+from1_37 = link head lines w_37 (conn 1) (Some o1_37) e_37 rest_38 (Some o1_38) (λ h k. refl) (ap (λ x. past_look head lines w_37 (conn 1) o1_37 (table 0) (rid 0) Current x) (ap is_true (truth_14 ((Int (pos 1)) ∷ (Int (pos 1)) ∷ [])))) from1_38
 
 from1_36 : ConductFrom head lines w_36 (conn 1) None rest_36
 unfolding mode_number mode_eq goes_with compatible joined at_least covers escalated value_cmp value_eq value_lt name_eq is_hold_of opposes stands_before world_from world is_table_mode is_row_mode table_mode
-from1_36 = link head lines w_36 (conn 1) None e_36 rest_37 None (λ h. not_own h) (refl) from1_37
+from1_36 = begins head lines w_36 (conn 1) o1_36 e_36 rest_37 refl (ap (λ x. Some (begun head w_36 (conn 1) statement_14 (select_list head (table 0) (level_in (w_36.setting (conn 1)) None) x))) plan_14) (link head lines w_36 (conn 1) (Some o1_36) e_36 rest_37 (Some o1_37) (λ h k. refl) (refl) from1_37)
 
 from1_35 : ConductFrom head lines w_35 (conn 1) None rest_35
 unfolding mode_number mode_eq goes_with compatible joined at_least covers escalated value_cmp value_eq value_lt name_eq is_hold_of opposes stands_before world_from world is_table_mode is_row_mode table_mode
@@ -844,29 +948,29 @@ from1_27 : ConductFrom head lines w_27 (conn 1) None rest_27
 unfolding mode_number mode_eq goes_with compatible joined at_least covers escalated value_cmp value_eq value_lt name_eq is_hold_of opposes stands_before world_from world is_table_mode is_row_mode table_mode
 from1_27 = link head lines w_27 (conn 1) None e_27 rest_28 None (λ h. not_own h) (refl) from1_28
 
-from1_26 : ConductFrom head lines w_26 (conn 1) None rest_26
+from1_26 : ConductFrom head lines w_26 (conn 1) (Some o1_26) rest_26
 unfolding mode_number mode_eq goes_with compatible joined at_least covers escalated value_cmp value_eq value_lt name_eq is_hold_of opposes stands_before world_from world is_table_mode is_row_mode table_mode
-from1_26 = begins head lines w_26 (conn 1) o1_26 e_26 rest_27 refl (refl) (link head lines w_26 (conn 1) (Some o1_26) e_26 rest_27 None (λ h k. refl) (refl) from1_27)
+from1_26 = link head lines w_26 (conn 1) (Some o1_26) e_26 rest_27 None (λ h. refl) (refl) from1_27
 
-from1_25 : ConductFrom head lines w_25 (conn 1) None rest_25
+from1_25 : ConductFrom head lines w_25 (conn 1) (Some o1_24) rest_25
 unfolding mode_number mode_eq goes_with compatible joined at_least covers escalated value_cmp value_eq value_lt name_eq is_hold_of opposes stands_before world_from world is_table_mode is_row_mode table_mode
-from1_25 = link head lines w_25 (conn 1) None e_25 rest_26 None (λ h. not_own h) (refl) from1_26
+from1_25 = link head lines w_25 (conn 1) (Some o1_24) e_25 rest_26 (Some o1_26) (λ h. refl) (refl) from1_26
 
-from1_24 : ConductFrom head lines w_24 (conn 1) None rest_24
+from1_24 : ConductFrom head lines w_24 (conn 1) (Some o1_24) rest_24
 unfolding mode_number mode_eq goes_with compatible joined at_least covers escalated value_cmp value_eq value_lt name_eq is_hold_of opposes stands_before world_from world is_table_mode is_row_mode table_mode
-from1_24 = link head lines w_24 (conn 1) None e_24 rest_25 None (λ h. not_own h) (refl) from1_25
+from1_24 = link head lines w_24 (conn 1) (Some o1_24) e_24 rest_25 (Some o1_24) (λ h. not_own h) (refl) from1_25
 
-from1_23 : ConductFrom head lines w_23 (conn 1) None rest_23
+from1_23 : ConductFrom head lines w_23 (conn 1) (Some o1_23) rest_23
 unfolding mode_number mode_eq goes_with compatible joined at_least covers escalated value_cmp value_eq value_lt name_eq is_hold_of opposes stands_before world_from world is_table_mode is_row_mode table_mode
-from1_23 = link head lines w_23 (conn 1) None e_23 rest_24 None (λ h. not_own h) (refl) from1_24
+from1_23 = link head lines w_23 (conn 1) (Some o1_23) e_23 rest_24 (Some o1_24) (λ h k. refl) (refl) from1_24
 
-from1_22 : ConductFrom head lines w_22 (conn 1) None rest_22
+from1_22 : ConductFrom head lines w_22 (conn 1) (Some o1_22) rest_22
 unfolding mode_number mode_eq goes_with compatible joined at_least covers escalated value_cmp value_eq value_lt name_eq is_hold_of opposes stands_before world_from world is_table_mode is_row_mode table_mode
-from1_22 = link head lines w_22 (conn 1) None e_22 rest_23 None (λ h. not_own h) (refl) from1_23
+from1_22 = link head lines w_22 (conn 1) (Some o1_22) e_22 rest_23 (Some o1_23) (λ h k. refl) (refl) from1_23
 
 from1_21 : ConductFrom head lines w_21 (conn 1) None rest_21
 unfolding mode_number mode_eq goes_with compatible joined at_least covers escalated value_cmp value_eq value_lt name_eq is_hold_of opposes stands_before world_from world is_table_mode is_row_mode table_mode
-from1_21 = link head lines w_21 (conn 1) None e_21 rest_22 None (λ h. not_own h) (refl) from1_22
+from1_21 = begins head lines w_21 (conn 1) o1_21 e_21 rest_22 refl (ap (λ x. Some (begun head w_21 (conn 1) statement_12 (change_list head (table 0) (level_in (w_21.setting (conn 1)) None) x))) plan_12) (link head lines w_21 (conn 1) (Some o1_21) e_21 rest_22 (Some o1_22) (λ h k. refl) (refl) from1_22)
 
 from1_20 : ConductFrom head lines w_20 (conn 1) None rest_20
 unfolding mode_number mode_eq goes_with compatible joined at_least covers escalated value_cmp value_eq value_lt name_eq is_hold_of opposes stands_before world_from world is_table_mode is_row_mode table_mode
@@ -888,17 +992,17 @@ from1_16 : ConductFrom head lines w_16 (conn 1) None rest_16
 unfolding mode_number mode_eq goes_with compatible joined at_least covers escalated value_cmp value_eq value_lt name_eq is_hold_of opposes stands_before world_from world is_table_mode is_row_mode table_mode
 from1_16 = link head lines w_16 (conn 1) None e_16 rest_17 None (λ h. not_own h) (refl) from1_17
 
-from1_15 : ConductFrom head lines w_15 (conn 1) None rest_15
+from1_15 : ConductFrom head lines w_15 (conn 1) (Some o1_15) rest_15
 unfolding mode_number mode_eq goes_with compatible joined at_least covers escalated value_cmp value_eq value_lt name_eq is_hold_of opposes stands_before world_from world is_table_mode is_row_mode table_mode
-from1_15 = link head lines w_15 (conn 1) None e_15 rest_16 None (λ h. not_own h) (refl) from1_16
+from1_15 = link head lines w_15 (conn 1) (Some o1_15) e_15 rest_16 None (λ h k. refl) (refl) from1_16
 
-from1_14 : ConductFrom head lines w_14 (conn 1) None rest_14
+from1_14 : ConductFrom head lines w_14 (conn 1) (Some o1_14) rest_14
 unfolding mode_number mode_eq goes_with compatible joined at_least covers escalated value_cmp value_eq value_lt name_eq is_hold_of opposes stands_before world_from world is_table_mode is_row_mode table_mode
-from1_14 = link head lines w_14 (conn 1) None e_14 rest_15 None (λ h. not_own h) (refl) from1_15
+from1_14 = link head lines w_14 (conn 1) (Some o1_14) e_14 rest_15 (Some o1_15) (λ h k. refl) (refl) from1_15
 
 from1_13 : ConductFrom head lines w_13 (conn 1) (Some o1_13) rest_13
 unfolding mode_number mode_eq goes_with compatible joined at_least covers escalated value_cmp value_eq value_lt name_eq is_hold_of opposes stands_before world_from world is_table_mode is_row_mode table_mode
-from1_13 = link head lines w_13 (conn 1) (Some o1_13) e_13 rest_14 None (λ h k. refl) (refl) from1_14
+from1_13 = link head lines w_13 (conn 1) (Some o1_13) e_13 rest_14 (Some o1_14) (λ h k. refl) (refl) from1_14
 
 from1_12 : ConductFrom head lines w_12 (conn 1) (Some o1_12) rest_12
 unfolding mode_number mode_eq goes_with compatible joined at_least covers escalated value_cmp value_eq value_lt name_eq is_hold_of opposes stands_before world_from world is_table_mode is_row_mode table_mode
@@ -906,23 +1010,23 @@ from1_12 = link head lines w_12 (conn 1) (Some o1_12) e_12 rest_13 (Some o1_13) 
 
 from1_11 : ConductFrom head lines w_11 (conn 1) (Some o1_11) rest_11
 unfolding mode_number mode_eq goes_with compatible joined at_least covers escalated value_cmp value_eq value_lt name_eq is_hold_of opposes stands_before world_from world is_table_mode is_row_mode table_mode
-from1_11 = link head lines w_11 (conn 1) (Some o1_11) e_11 rest_12 (Some o1_12) (λ h k. refl) (refl) from1_12
+from1_11 = link head lines w_11 (conn 1) (Some o1_11) e_11 rest_12 (Some o1_12) (λ h k. refl) (ap (λ x. past_look head lines w_11 (conn 1) o1_11 (table 0) (rid 1) Alter x) (ap is_true (truth_10 ((Int (pos 2)) ∷ (Int (pos 200)) ∷ [])))) from1_12
 
 from1_10 : ConductFrom head lines w_10 (conn 1) (Some o1_10) rest_10
 unfolding mode_number mode_eq goes_with compatible joined at_least covers escalated value_cmp value_eq value_lt name_eq is_hold_of opposes stands_before world_from world is_table_mode is_row_mode table_mode
 from1_10 = link head lines w_10 (conn 1) (Some o1_10) e_10 rest_11 (Some o1_11) (λ h k. refl) (refl) from1_11
 
-from1_9 : ConductFrom head lines w_9 (conn 1) (Some o1_9) rest_9
+from1_9 : ConductFrom head lines w_9 (conn 1) None rest_9
 unfolding mode_number mode_eq goes_with compatible joined at_least covers escalated value_cmp value_eq value_lt name_eq is_hold_of opposes stands_before world_from world is_table_mode is_row_mode table_mode
-from1_9 = link head lines w_9 (conn 1) (Some o1_9) e_9 rest_10 (Some o1_10) (λ h k. refl) (ap (λ x. past_look head lines w_9 (conn 1) o1_9 (table 0) (rid 11) Alter x) (ap is_true (truth_25 ((Int (pos 12)) ∷ [])))) from1_10
+from1_9 = begins head lines w_9 (conn 1) o1_9 e_9 rest_10 refl (ap (λ x. Some (begun head w_9 (conn 1) statement_10 (change_list head (table 0) (level_in (w_9.setting (conn 1)) None) x))) plan_10) (link head lines w_9 (conn 1) (Some o1_9) e_9 rest_10 (Some o1_10) (λ h k. refl) (refl) from1_10)
 
-from1_8 : ConductFrom head lines w_8 (conn 1) (Some o1_8) rest_8
+from1_8 : ConductFrom head lines w_8 (conn 1) None rest_8
 unfolding mode_number mode_eq goes_with compatible joined at_least covers escalated value_cmp value_eq value_lt name_eq is_hold_of opposes stands_before world_from world is_table_mode is_row_mode table_mode
-from1_8 = link head lines w_8 (conn 1) (Some o1_8) e_8 rest_9 (Some o1_9) (λ h k. refl) (refl) from1_9
+from1_8 = link head lines w_8 (conn 1) None e_8 rest_9 None (λ h. not_own h) (refl) from1_9
 
 from1_7 : ConductFrom head lines w_7 (conn 1) None rest_7
 unfolding mode_number mode_eq goes_with compatible joined at_least covers escalated value_cmp value_eq value_lt name_eq is_hold_of opposes stands_before world_from world is_table_mode is_row_mode table_mode
-from1_7 = begins head lines w_7 (conn 1) o1_7 e_7 rest_8 refl (ap (λ x. Some (begun head w_7 (conn 1) statement_25 (change_list head (table 0) (level_in (w_7.setting (conn 1)) None) x))) plan_25) (link head lines w_7 (conn 1) (Some o1_7) e_7 rest_8 (Some o1_8) (λ h k. refl) (refl) from1_8)
+from1_7 = link head lines w_7 (conn 1) None e_7 rest_8 None (λ h. not_own h) (refl) from1_8
 
 from1_6 : ConductFrom head lines w_6 (conn 1) None rest_6
 unfolding mode_number mode_eq goes_with compatible joined at_least covers escalated value_cmp value_eq value_lt name_eq is_hold_of opposes stands_before world_from world is_table_mode is_row_mode table_mode
@@ -958,12 +1062,12 @@ conduct_1 = from1_0
 
 paced : Paced head lines es
 unfolding mode_number mode_eq goes_with compatible joined at_least covers escalated value_cmp value_eq value_lt name_eq is_hold_of opposes stands_before world_from world is_table_mode is_row_mode table_mode PacedFrom Paced
-paced = (refl, (tt, (tt, (tt, (tt, (tt, (refl, (tt, (tt, (tt, (tt, (tt, (tt, (tt, (refl, (tt, (tt, (tt, (tt, (tt, (tt, (tt, (tt, (tt, (tt, (refl, (tt, (refl, (tt, (tt, (tt, (tt, (tt, (tt, (tt, (tt, (refl, (refl, (tt, (refl, (tt, (refl, tt))))))))))))))))))))))))))))))))))))))))))
+paced = (refl, (tt, (tt, (tt, (tt, (tt, (tt, (tt, (refl, (tt, (tt, (tt, (tt, (tt, (tt, (tt, (refl, (tt, (tt, (tt, (refl, (tt, (tt, (tt, (tt, (tt, (tt, (tt, (tt, (tt, (tt, (tt, (tt, (refl, (tt, (refl, (tt, (tt, (tt, (tt, (tt, (refl, (tt, (refl, (tt, (refl, tt))))))))))))))))))))))))))))))))))))))))))))))
 
 scheduled : Scheduled head lines None es
 unfolding mode_number mode_eq goes_with compatible joined at_least covers escalated value_cmp value_eq value_lt name_eq is_hold_of opposes stands_before world_from world is_table_mode is_row_mode table_mode ScheduledFrom Scheduled
-scheduled = (refl, (λ k. refl, λ h. no_stop h), (refl, tt, (refl, tt, (refl, tt, (refl, tt, (refl, tt, (refl, (λ k. refl, λ h. no_stop h), (refl, tt, (refl, tt, (refl, tt, (refl, tt, (refl, tt, (refl, tt, (refl, tt, (refl, (λ k. refl, λ h. no_stop h), (refl, tt, (refl, tt, (refl, tt, (refl, tt, (refl, tt, (refl, tt, (refl, tt, (refl, tt, (refl, tt, (refl, tt, (refl, (λ k. refl, λ h. no_stop h), (refl, tt, (refl, (λ k. refl, λ h. no_stop h), (refl, tt, (refl, tt, (refl, tt, (refl, tt, (refl, tt, (refl, tt, (refl, tt, (refl, tt, (refl, (λ k. refl, λ h. no_stop h), (refl, (λ k. refl, λ h. no_stop h), (refl, tt, (refl, (λ k. refl, λ h. no_stop h), (refl, tt, (refl, (λ k. refl, λ h. no_stop h), tt))))))))))))))))))))))))))))))))))))))))))
+scheduled = (refl, (λ k. refl, λ h. no_stop h), (refl, tt, (refl, tt, (refl, tt, (refl, tt, (refl, tt, (refl, tt, (refl, tt, (refl, (λ k. refl, λ h. no_stop h), (refl, tt, (refl, tt, (refl, tt, (refl, tt, (refl, tt, (refl, tt, (refl, tt, (refl, (λ k. refl, λ h. no_stop h), (refl, tt, (refl, tt, (refl, tt, (refl, (λ k. refl, λ h. no_stop h), (refl, tt, (refl, tt, (refl, tt, (refl, (λ k. refl, λ h. no_stop h), (refl, tt, (refl, tt, (refl, tt, (refl, tt, (refl, tt, (refl, tt, (refl, tt, (refl, tt, (refl, (λ k. refl, λ h. no_stop h), (refl, tt, (refl, (λ k. refl, λ h. no_stop h), (refl, tt, (refl, tt, (refl, tt, (refl, tt, (refl, tt, (refl, (λ k. refl, λ h. no_stop h), (refl, tt, (refl, (λ k. refl, λ h. no_stop h), (refl, tt, (refl, (λ k. refl, λ h. no_stop h), tt))))))))))))))))))))))))))))))))))))))))))))))
 
 whole : IsWhole (record { head = head; lines = lines }) es
 unfolding mode_number mode_eq goes_with compatible joined at_least covers escalated value_cmp value_eq value_lt name_eq is_hold_of opposes stands_before world_from world is_table_mode is_row_mode table_mode
-whole = record { finished = (take 41 es, refl); unstopped = refl; lines = refl; ended = refl }
+whole = record { finished = (take 45 es, refl); unstopped = refl; lines = refl; ended = refl }

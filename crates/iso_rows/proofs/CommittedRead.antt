@@ -1,4 +1,4 @@
--- Row 10: legal, scheduled and whole, by computing.
+-- A read beside an uncommitted change: legal, scheduled and whole, by computing.
 use Rattle.std.proofs.Common.{◌≡◌, ℕ, Bool, true, false, List, [], ◌∷◌, refl, Some, None, length, take, drop, pos, negsuc}
 use Rattle.std.specs.List.{list_all}
 use Rattle.iso_types.specs.declared.value.Value.{Value}
@@ -65,111 +65,161 @@ use Rattle.iso_rows.proofs.Linked.{always-bounds, always-truth, and-bounds-by, a
 
 abbrev head : Head
 head = heading (config true 1024 60 65536 65536)
-    (table_def (column Integer true ∷ []) ∷ [])
-    (index_def (table 0) 0 false ∷ [])
-    (first_row (table 0) ((Int (pos 5)) ∷ []) ∷ first_row (table 0) ((Int (pos 30)) ∷ []) ∷ [])
-    (conn_def Cs ∷ conn_def Rr ∷ [])
+    (table_def (column Integer true ∷ column Integer false ∷ []) ∷ [])
+    []
+    (first_row (table 0) ((Int (pos 1)) ∷ (Int (pos 100)) ∷ []) ∷ first_row (table 0) ((Int (pos 2)) ∷ (Int (pos 200)) ∷ []) ∷ [])
+    (conn_def Cs ∷ conn_def Cs ∷ [])
+
+abbrev statement_8 : Statement
+statement_8 = Statement.Update (table 0) (sets_of (assign 1 (Expr.Literal (Int (pos 110))) ∷ [])) (c.Compare 0 Eq (Int (pos 1))) None
+
+abbrev cond_8 : Condition
+cond_8 = (c.Compare 0 Eq (Int (pos 1)))
+
+truth_8 : (row : List Value) → truth row cond_8 ≡ compared Eq (value_at row 0) (Int (pos 1))
+truth_8 row = compare-truth row 0 Eq (Int (pos 1))
+
+plan_8 : plan_of head (table 0) cond_8 ≡ Path.Table
+unfolding mode_number mode_eq goes_with compatible joined at_least covers escalated value_cmp value_eq value_lt name_eq is_hold_of opposes stands_before world_from world is_table_mode is_row_mode table_mode
+plan_8 = refl
 
 abbrev statement_9 : Statement
-statement_9 = Select (table 0) (Columns (0 ∷ [])) (c.Between 0 (Int (pos 10)) (Int (pos 20))) None
+statement_9 = Select (table 0) (Columns (1 ∷ [])) (c.Compare 0 Eq (Int (pos 1))) None
 
 abbrev cond_9 : Condition
-cond_9 = (c.Between 0 (Int (pos 10)) (Int (pos 20)))
+cond_9 = (c.Compare 0 Eq (Int (pos 1)))
 
-truth_9 : (row : List Value) → truth row cond_9 ≡ between (value_at row 0) (Int (pos 10)) (Int (pos 20))
-truth_9 row = between-truth row 0 (Int (pos 10)) (Int (pos 20))
+truth_9 : (row : List Value) → truth row cond_9 ≡ compared Eq (value_at row 0) (Int (pos 1))
+truth_9 row = compare-truth row 0 Eq (Int (pos 1))
 
-plan_9 : plan_of head (table 0) cond_9 ≡ (Path.Index (index 0) (range (Some (bound (Int (pos 10)) true)) (Some (bound (Int (pos 20)) true))))
+plan_9 : plan_of head (table 0) cond_9 ≡ Path.Table
 unfolding mode_number mode_eq goes_with compatible joined at_least covers escalated value_cmp value_eq value_lt name_eq is_hold_of opposes stands_before world_from world is_table_mode is_row_mode table_mode
-plan_9 = ap (λ x. path_by (index 0) x (first_path head cond_9 [])) (between-bounds 0 0 (Int (pos 10)) (Int (pos 20)))
+plan_9 = refl
 
 abbrev statement_10 : Statement
-statement_10 = Statement.Insert (table 0) ((Int (pos 40)) ∷ [])
+statement_10 = Statement.Commit
 
 abbrev statement_11 : Statement
-statement_11 = Statement.Insert (table 0) ((Int (pos 15)) ∷ [])
+statement_11 = Select (table 0) (Columns (1 ∷ [])) (c.Compare 0 Eq (Int (pos 1))) None
 
-abbrev statement_12 : Statement
-statement_12 = Statement.Commit
+abbrev cond_11 : Condition
+cond_11 = (c.Compare 0 Eq (Int (pos 1)))
+
+truth_11 : (row : List Value) → truth row cond_11 ≡ compared Eq (value_at row 0) (Int (pos 1))
+truth_11 row = compare-truth row 0 Eq (Int (pos 1))
+
+plan_11 : plan_of head (table 0) cond_11 ≡ Path.Table
+unfolding mode_number mode_eq goes_with compatible joined at_least covers escalated value_cmp value_eq value_lt name_eq is_hold_of opposes stands_before world_from world is_table_mode is_row_mode table_mode
+plan_11 = refl
 
 abbrev lines : List Line
 lines =
-    (line 9 (Some (conn 1)) false (What.Statement (Select (table 0) (Columns (0 ∷ [])) (c.Between 0 (Int (pos 10)) (Int (pos 20))) None))
-    ∷ line 10 (Some (conn 0)) false (What.Statement (Statement.Insert (table 0) ((Int (pos 40)) ∷ [])))
-    ∷ line 11 (Some (conn 0)) false (What.Statement (Statement.Insert (table 0) ((Int (pos 15)) ∷ [])))
-    ∷ line 12 (Some (conn 1)) false (What.Statement (Statement.Commit)) ∷ [])
+    (line 8 (Some (conn 0)) false (What.Statement (Statement.Update (table 0) (sets_of (assign 1 (Expr.Literal (Int (pos 110))) ∷ [])) (c.Compare 0 Eq (Int (pos 1))) None))
+    ∷ line 9 (Some (conn 1)) false (What.Statement (Select (table 0) (Columns (1 ∷ [])) (c.Compare 0 Eq (Int (pos 1))) None))
+    ∷ line 10 (Some (conn 0)) false (What.Statement (Statement.Commit))
+    ∷ line 11 (Some (conn 1)) false (What.Statement (Select (table 0) (Columns (1 ∷ [])) (c.Compare 0 Eq (Int (pos 1))) None)) ∷ [])
 
 abbrev e_0 : Entry
-e_0 = dispatcher (Dispatch 9 (conn 1))
+e_0 = dispatcher (Dispatch 8 (conn 0))
 
 abbrev e_1 : Entry
-e_1 = agent 1 (Lock (Table (table 0)) Is Kept Asked Got.Granted)
+e_1 = agent 0 (Lock (Table (table 0)) Ix Kept Asked Got.Granted)
 
 abbrev e_2 : Entry
-e_2 = agent 1 (Next (index 0) (range (Some (bound (Int (pos 10)) true)) (Some (bound (Int (pos 20)) true))) None true Past)
+e_2 = agent 0 (Look (table 0) (rid 0) Alter Got.Granted)
 
 abbrev e_3 : Entry
-e_3 = agent 1 (Reply (pos 100) 0 [])
+e_3 = agent 0 (Look (table 0) (rid 1) Alter Got.Granted)
 
 abbrev e_4 : Entry
-e_4 = dispatcher (Dispatch 10 (conn 0))
+e_4 = agent 0 (Free (table 0) (rid 1))
 
 abbrev e_5 : Entry
-e_5 = agent 0 (Lock (Table (table 0)) Ix Kept Asked Got.Granted)
+e_5 = agent 0 (ScanEnd (table 0) 2)
 
 abbrev e_6 : Entry
-e_6 = agent 0 (Insert (table 0) (rid 2) ((Int (pos 40)) ∷ []))
+e_6 = agent 0 (Lock (Row (table 0) (rid 0)) X Kept Asked Got.Granted)
 
 abbrev e_7 : Entry
-e_7 = agent 0 (Reply (pos 0) 1 [])
+e_7 = agent 0 (Update (table 0) (rid 0) ((Int (pos 1)) ∷ (Int (pos 110)) ∷ []))
 
 abbrev e_8 : Entry
-e_8 = dispatcher (Dispatch 11 (conn 0))
+e_8 = agent 0 (Reply (pos 0) 1 [])
 
 abbrev e_9 : Entry
-e_9 = agent 0 (Lock (Table (table 0)) Ix Kept Asked Got.Granted)
+e_9 = dispatcher (Dispatch 9 (conn 1))
 
 abbrev e_10 : Entry
-e_10 = agent 0 (Lock (Key (index 0) (Int (pos 30))) Nw Brief Blocked (Got.Queued Nw))
+e_10 = agent 1 (Lock (Table (table 0)) Is Kept Asked Got.Granted)
 
 abbrev e_11 : Entry
-e_11 = dispatcher (Dispatch 12 (conn 1))
+e_11 = agent 1 (Look (table 0) (rid 0) Current Got.Granted)
 
 abbrev e_12 : Entry
-e_12 = agent 1 (Commit)
+e_12 = agent 1 (Look (table 0) (rid 1) Current Got.Granted)
 
 abbrev e_13 : Entry
-e_13 = agent 0 (Claim)
+e_13 = agent 1 (ScanEnd (table 0) 2)
 
 abbrev e_14 : Entry
-e_14 = agent 0 (Insert (table 0) (rid 3) ((Int (pos 15)) ∷ []))
+e_14 = agent 1 (Reply (pos 0) 0 (((Int (pos 100)) ∷ []) ∷ []))
 
 abbrev e_15 : Entry
-e_15 = agent 0 (Reply (pos 0) 1 [])
+e_15 = dispatcher (Dispatch 10 (conn 0))
 
 abbrev e_16 : Entry
-e_16 = dispatcher (Close (conn 0))
+e_16 = agent 0 (Commit)
 
 abbrev e_17 : Entry
-e_17 = agent 0 (Undo 1)
+e_17 = dispatcher (Dispatch 11 (conn 1))
 
 abbrev e_18 : Entry
-e_18 = agent 0 (Undo 0)
+e_18 = agent 1 (Lock (Table (table 0)) Is Kept Asked Got.Granted)
 
 abbrev e_19 : Entry
-e_19 = agent 0 (Act.Ended)
+e_19 = agent 1 (Look (table 0) (rid 0) Current Got.Granted)
 
 abbrev e_20 : Entry
-e_20 = dispatcher (Close (conn 1))
+e_20 = agent 1 (Look (table 0) (rid 1) Current Got.Granted)
 
 abbrev e_21 : Entry
-e_21 = agent 1 (Act.Ended)
+e_21 = agent 1 (ScanEnd (table 0) 2)
 
 abbrev e_22 : Entry
-e_22 = dispatcher (Finish)
+e_22 = agent 1 (Reply (pos 0) 0 (((Int (pos 110)) ∷ []) ∷ []))
+
+abbrev e_23 : Entry
+e_23 = dispatcher (Close (conn 0))
+
+abbrev e_24 : Entry
+e_24 = agent 0 (Act.Ended)
+
+abbrev e_25 : Entry
+e_25 = dispatcher (Close (conn 1))
+
+abbrev e_26 : Entry
+e_26 = agent 1 (Act.Ended)
+
+abbrev e_27 : Entry
+e_27 = dispatcher (Finish)
+
+abbrev rest_28 : List Entry
+rest_28 = []
+
+abbrev rest_27 : List Entry
+rest_27 = e_27 ∷ rest_28
+
+abbrev rest_26 : List Entry
+rest_26 = e_26 ∷ rest_27
+
+abbrev rest_25 : List Entry
+rest_25 = e_25 ∷ rest_26
+
+abbrev rest_24 : List Entry
+rest_24 = e_24 ∷ rest_25
 
 abbrev rest_23 : List Entry
-rest_23 = []
+rest_23 = e_23 ∷ rest_24
 
 abbrev rest_22 : List Entry
 rest_22 = e_22 ∷ rest_23
@@ -312,40 +362,78 @@ w_22 = after head w_21 e_21
 abbrev w_23 : World
 w_23 = after head w_22 e_22
 
+abbrev w_24 : World
+w_24 = after head w_23 e_23
+
+abbrev w_25 : World
+w_25 = after head w_24 e_24
+
+abbrev w_26 : World
+w_26 = after head w_25 e_25
+
+abbrev w_27 : World
+w_27 = after head w_26 e_26
+
+abbrev w_28 : World
+w_28 = after head w_27 e_27
+
 abbrev es : List Entry
 es = rest_0
 
 ground : Ground head es
 unfolding mode_number mode_eq goes_with compatible joined at_least covers escalated value_cmp value_eq value_lt name_eq is_hold_of opposes stands_before world_from world is_table_mode is_row_mode table_mode GroundFrom Ground
-ground = ((refl, refl, (refl, refl, refl)), ((refl, refl, (refl, ((refl, refl), (refl, refl, refl)))), ((refl, refl, (refl, ((refl, refl), refl, refl))), ((refl, refl, (refl, (refl, refl))), ((refl, refl, (refl, refl, refl)), ((refl, refl, (refl, ((refl, refl), (refl, refl, refl)))), ((refl, refl, (refl, ((refl, refl), refl, refl, refl, refl))), ((refl, refl, (refl, (refl, refl))), ((refl, refl, (refl, refl, refl)), ((refl, refl, (refl, ((refl, refl), (refl, refl, refl)))), ((refl, refl, (refl, ((refl, refl), (refl, refl, refl, refl)))), ((refl, refl, (refl, refl, refl)), ((refl, refl, (refl, (refl, refl))), ((refl, refl, (refl, refl)), ((refl, refl, (refl, ((refl, refl), refl, refl, refl, refl))), ((refl, refl, (refl, (refl, refl))), ((refl, refl, (refl, refl)), ((refl, refl, (refl, (refl, refl))), ((refl, refl, (refl, (refl, refl))), ((refl, refl, (refl, (refl, refl))), ((refl, refl, (refl, refl)), ((refl, refl, (refl, (refl, refl))), ((refl, refl, refl), tt)))))))))))))))))))))))
+ground = ((refl, refl, (refl, refl, refl)), ((refl, refl, (refl, ((refl, refl), (refl, refl, refl)))), ((refl, refl, (refl, ((refl, refl), refl, refl))), ((refl, refl, (refl, ((refl, refl), refl, refl))), ((refl, refl, (refl, ((refl, refl), refl, refl))), ((refl, refl, (refl, ((refl, refl), refl, refl))), ((refl, refl, (refl, ((refl, refl), (refl, refl, refl)))), ((refl, refl, (refl, ((refl, refl), refl, refl, refl))), ((refl, refl, (refl, (refl, refl))), ((refl, refl, (refl, refl, refl)), ((refl, refl, (refl, ((refl, refl), (refl, refl, refl)))), ((refl, refl, (refl, ((refl, refl), refl, refl))), ((refl, refl, (refl, ((refl, refl), refl, refl))), ((refl, refl, (refl, ((refl, refl), refl, refl))), ((refl, refl, (refl, (refl, refl))), ((refl, refl, (refl, refl, refl)), ((refl, refl, (refl, (refl, refl))), ((refl, refl, (refl, refl, refl)), ((refl, refl, (refl, ((refl, refl), (refl, refl, refl)))), ((refl, refl, (refl, ((refl, refl), refl, refl))), ((refl, refl, (refl, ((refl, refl), refl, refl))), ((refl, refl, (refl, ((refl, refl), refl, refl))), ((refl, refl, (refl, (refl, refl))), ((refl, refl, (refl, refl)), ((refl, refl, (refl, (refl, refl))), ((refl, refl, (refl, refl)), ((refl, refl, (refl, (refl, refl))), ((refl, refl, refl), tt))))))))))))))))))))))))))))
+
+abbrev o0_1 : Point
+o0_1 = record { statement = statement_8; columns = (updated_columns head statement_8); floor = 0; left = (Asks (Table (table 0)) Ix ∷ TableScan (table 0) Alter 0 ∷ Changes (table 0) ∷ Answer ∷ []); kept = Found [] }
+
+abbrev o0_2 : Point
+o0_2 = record { statement = statement_8; columns = (updated_columns head statement_8); floor = 0; left = (TableScan (table 0) Alter 0 ∷ Changes (table 0) ∷ Answer ∷ []); kept = Found [] }
+
+abbrev o0_3 : Point
+o0_3 = record { statement = statement_8; columns = (updated_columns head statement_8); floor = 0; left = (TableScan (table 0) Alter 1 ∷ Changes (table 0) ∷ Answer ∷ []); kept = Found ((rid 0, ((Int (pos 1)) ∷ (Int (pos 100)) ∷ [])) ∷ []) }
+
+abbrev o0_4 : Point
+o0_4 = record { statement = statement_8; columns = (updated_columns head statement_8); floor = 0; left = (Frees (table 0) (rid 1) ∷ TableScan (table 0) Alter 2 ∷ Changes (table 0) ∷ Answer ∷ []); kept = Found ((rid 0, ((Int (pos 1)) ∷ (Int (pos 100)) ∷ [])) ∷ []) }
 
 abbrev o0_5 : Point
-o0_5 = record { statement = statement_10; columns = []; floor = 0; left = (Asks (Table (table 0)) Ix ∷ NewRow (table 0) ((Int (pos 40)) ∷ []) ∷ Replies (pos 0) 1 ∷ []); kept = Found [] }
+o0_5 = record { statement = statement_8; columns = (updated_columns head statement_8); floor = 0; left = (TableScan (table 0) Alter 2 ∷ Changes (table 0) ∷ Answer ∷ []); kept = Found ((rid 0, ((Int (pos 1)) ∷ (Int (pos 100)) ∷ [])) ∷ []) }
 
 abbrev o0_6 : Point
-o0_6 = record { statement = statement_10; columns = []; floor = 0; left = (NewRow (table 0) ((Int (pos 40)) ∷ []) ∷ Replies (pos 0) 1 ∷ []); kept = Found [] }
+o0_6 = record { statement = statement_8; columns = (updated_columns head statement_8); floor = 0; left = (Asks (Row (table 0) (rid 0)) X ∷ RowUpdate (table 0) (rid 0) ((Int (pos 1)) ∷ (Int (pos 110)) ∷ []) ∷ Answer ∷ []); kept = Found ((rid 0, ((Int (pos 1)) ∷ (Int (pos 100)) ∷ [])) ∷ []) }
 
 abbrev o0_7 : Point
-o0_7 = record { statement = statement_10; columns = []; floor = 0; left = (Replies (pos 0) 1 ∷ []); kept = Found [] }
+o0_7 = record { statement = statement_8; columns = (updated_columns head statement_8); floor = 0; left = (RowUpdate (table 0) (rid 0) ((Int (pos 1)) ∷ (Int (pos 110)) ∷ []) ∷ Answer ∷ []); kept = Found ((rid 0, ((Int (pos 1)) ∷ (Int (pos 100)) ∷ [])) ∷ []) }
 
-abbrev o0_9 : Point
-o0_9 = record { statement = statement_11; columns = []; floor = 1; left = (Asks (Table (table 0)) Ix ∷ NewRow (table 0) ((Int (pos 15)) ∷ []) ∷ Replies (pos 0) 1 ∷ []); kept = Found [] }
+abbrev o0_8 : Point
+o0_8 = record { statement = statement_8; columns = (updated_columns head statement_8); floor = 0; left = (Answer ∷ []); kept = Found ((rid 0, ((Int (pos 1)) ∷ (Int (pos 100)) ∷ [])) ∷ []) }
 
-abbrev o0_10 : Point
-o0_10 = record { statement = statement_11; columns = []; floor = 1; left = (NewRow (table 0) ((Int (pos 15)) ∷ []) ∷ Replies (pos 0) 1 ∷ []); kept = Found [] }
+abbrev o0_16 : Point
+o0_16 = record { statement = statement_10; columns = []; floor = 1; left = (Settles ∷ []); kept = Found [] }
 
-abbrev o0_11 : Point
-o0_11 = record { statement = statement_11; columns = []; floor = 1; left = (Claims ∷ NewRow (table 0) ((Int (pos 15)) ∷ []) ∷ Replies (pos 0) 1 ∷ []); kept = Found [] }
+from0_28 : ConductFrom head lines w_28 (conn 0) None rest_28
+unfolding mode_number mode_eq goes_with compatible joined at_least covers escalated value_cmp value_eq value_lt name_eq is_hold_of opposes stands_before world_from world is_table_mode is_row_mode table_mode ConductFrom
+from0_28 = tt
 
-abbrev o0_14 : Point
-o0_14 = record { statement = statement_11; columns = []; floor = 1; left = (NewRow (table 0) ((Int (pos 15)) ∷ []) ∷ Replies (pos 0) 1 ∷ []); kept = Found [] }
+from0_27 : ConductFrom head lines w_27 (conn 0) None rest_27
+unfolding mode_number mode_eq goes_with compatible joined at_least covers escalated value_cmp value_eq value_lt name_eq is_hold_of opposes stands_before world_from world is_table_mode is_row_mode table_mode
+from0_27 = link head lines w_27 (conn 0) None e_27 rest_28 None (λ h. not_own h) (refl) from0_28
 
-abbrev o0_15 : Point
-o0_15 = record { statement = statement_11; columns = []; floor = 1; left = (Replies (pos 0) 1 ∷ []); kept = Found [] }
+from0_26 : ConductFrom head lines w_26 (conn 0) None rest_26
+unfolding mode_number mode_eq goes_with compatible joined at_least covers escalated value_cmp value_eq value_lt name_eq is_hold_of opposes stands_before world_from world is_table_mode is_row_mode table_mode
+from0_26 = link head lines w_26 (conn 0) None e_26 rest_27 None (λ h. not_own h) (refl) from0_27
+
+from0_25 : ConductFrom head lines w_25 (conn 0) None rest_25
+unfolding mode_number mode_eq goes_with compatible joined at_least covers escalated value_cmp value_eq value_lt name_eq is_hold_of opposes stands_before world_from world is_table_mode is_row_mode table_mode
+from0_25 = link head lines w_25 (conn 0) None e_25 rest_26 None (λ h. not_own h) (refl) from0_26
+
+from0_24 : ConductFrom head lines w_24 (conn 0) None rest_24
+unfolding mode_number mode_eq goes_with compatible joined at_least covers escalated value_cmp value_eq value_lt name_eq is_hold_of opposes stands_before world_from world is_table_mode is_row_mode table_mode
+from0_24 = link head lines w_24 (conn 0) None e_24 rest_25 None (λ h. refl) (refl) from0_25
 
 from0_23 : ConductFrom head lines w_23 (conn 0) None rest_23
-unfolding mode_number mode_eq goes_with compatible joined at_least covers escalated value_cmp value_eq value_lt name_eq is_hold_of opposes stands_before world_from world is_table_mode is_row_mode table_mode ConductFrom
-from0_23 = tt
+unfolding mode_number mode_eq goes_with compatible joined at_least covers escalated value_cmp value_eq value_lt name_eq is_hold_of opposes stands_before world_from world is_table_mode is_row_mode table_mode
+from0_23 = link head lines w_23 (conn 0) None e_23 rest_24 None (λ h. not_own h) (refl) from0_24
 
 from0_22 : ConductFrom head lines w_22 (conn 0) None rest_22
 unfolding mode_number mode_eq goes_with compatible joined at_least covers escalated value_cmp value_eq value_lt name_eq is_hold_of opposes stands_before world_from world is_table_mode is_row_mode table_mode
@@ -361,79 +449,79 @@ from0_20 = link head lines w_20 (conn 0) None e_20 rest_21 None (λ h. not_own h
 
 from0_19 : ConductFrom head lines w_19 (conn 0) None rest_19
 unfolding mode_number mode_eq goes_with compatible joined at_least covers escalated value_cmp value_eq value_lt name_eq is_hold_of opposes stands_before world_from world is_table_mode is_row_mode table_mode
-from0_19 = link head lines w_19 (conn 0) None e_19 rest_20 None (λ h. refl) (refl) from0_20
+from0_19 = link head lines w_19 (conn 0) None e_19 rest_20 None (λ h. not_own h) (refl) from0_20
 
 from0_18 : ConductFrom head lines w_18 (conn 0) None rest_18
 unfolding mode_number mode_eq goes_with compatible joined at_least covers escalated value_cmp value_eq value_lt name_eq is_hold_of opposes stands_before world_from world is_table_mode is_row_mode table_mode
-from0_18 = link head lines w_18 (conn 0) None e_18 rest_19 None (λ h. refl) (refl) from0_19
+from0_18 = link head lines w_18 (conn 0) None e_18 rest_19 None (λ h. not_own h) (refl) from0_19
 
 from0_17 : ConductFrom head lines w_17 (conn 0) None rest_17
 unfolding mode_number mode_eq goes_with compatible joined at_least covers escalated value_cmp value_eq value_lt name_eq is_hold_of opposes stands_before world_from world is_table_mode is_row_mode table_mode
-from0_17 = link head lines w_17 (conn 0) None e_17 rest_18 None (λ h. refl) (refl) from0_18
+from0_17 = link head lines w_17 (conn 0) None e_17 rest_18 None (λ h. not_own h) (refl) from0_18
 
 from0_16 : ConductFrom head lines w_16 (conn 0) None rest_16
 unfolding mode_number mode_eq goes_with compatible joined at_least covers escalated value_cmp value_eq value_lt name_eq is_hold_of opposes stands_before world_from world is_table_mode is_row_mode table_mode
-from0_16 = link head lines w_16 (conn 0) None e_16 rest_17 None (λ h. not_own h) (refl) from0_17
+from0_16 = begins head lines w_16 (conn 0) o0_16 e_16 rest_17 refl (refl) (link head lines w_16 (conn 0) (Some o0_16) e_16 rest_17 None (λ h k. refl) (refl) from0_17)
 
-from0_15 : ConductFrom head lines w_15 (conn 0) (Some o0_15) rest_15
+from0_15 : ConductFrom head lines w_15 (conn 0) None rest_15
 unfolding mode_number mode_eq goes_with compatible joined at_least covers escalated value_cmp value_eq value_lt name_eq is_hold_of opposes stands_before world_from world is_table_mode is_row_mode table_mode
-from0_15 = link head lines w_15 (conn 0) (Some o0_15) e_15 rest_16 None (λ h k. refl) (refl) from0_16
+from0_15 = link head lines w_15 (conn 0) None e_15 rest_16 None (λ h. not_own h) (refl) from0_16
 
-from0_14 : ConductFrom head lines w_14 (conn 0) (Some o0_14) rest_14
+from0_14 : ConductFrom head lines w_14 (conn 0) None rest_14
 unfolding mode_number mode_eq goes_with compatible joined at_least covers escalated value_cmp value_eq value_lt name_eq is_hold_of opposes stands_before world_from world is_table_mode is_row_mode table_mode
-from0_14 = link head lines w_14 (conn 0) (Some o0_14) e_14 rest_15 (Some o0_15) (λ h k. refl) (refl) from0_15
+from0_14 = link head lines w_14 (conn 0) None e_14 rest_15 None (λ h. not_own h) (refl) from0_15
 
-from0_13 : ConductFrom head lines w_13 (conn 0) (Some o0_11) rest_13
+from0_13 : ConductFrom head lines w_13 (conn 0) None rest_13
 unfolding mode_number mode_eq goes_with compatible joined at_least covers escalated value_cmp value_eq value_lt name_eq is_hold_of opposes stands_before world_from world is_table_mode is_row_mode table_mode
-from0_13 = link head lines w_13 (conn 0) (Some o0_11) e_13 rest_14 (Some o0_14) (λ h k. refl) (refl) from0_14
+from0_13 = link head lines w_13 (conn 0) None e_13 rest_14 None (λ h. not_own h) (refl) from0_14
 
-from0_12 : ConductFrom head lines w_12 (conn 0) (Some o0_11) rest_12
+from0_12 : ConductFrom head lines w_12 (conn 0) None rest_12
 unfolding mode_number mode_eq goes_with compatible joined at_least covers escalated value_cmp value_eq value_lt name_eq is_hold_of opposes stands_before world_from world is_table_mode is_row_mode table_mode
-from0_12 = link head lines w_12 (conn 0) (Some o0_11) e_12 rest_13 (Some o0_11) (λ h. not_own h) (refl) from0_13
+from0_12 = link head lines w_12 (conn 0) None e_12 rest_13 None (λ h. not_own h) (refl) from0_13
 
-from0_11 : ConductFrom head lines w_11 (conn 0) (Some o0_11) rest_11
+from0_11 : ConductFrom head lines w_11 (conn 0) None rest_11
 unfolding mode_number mode_eq goes_with compatible joined at_least covers escalated value_cmp value_eq value_lt name_eq is_hold_of opposes stands_before world_from world is_table_mode is_row_mode table_mode
-from0_11 = link head lines w_11 (conn 0) (Some o0_11) e_11 rest_12 (Some o0_11) (λ h. not_own h) (refl) from0_12
+from0_11 = link head lines w_11 (conn 0) None e_11 rest_12 None (λ h. not_own h) (refl) from0_12
 
-from0_10 : ConductFrom head lines w_10 (conn 0) (Some o0_10) rest_10
+from0_10 : ConductFrom head lines w_10 (conn 0) None rest_10
 unfolding mode_number mode_eq goes_with compatible joined at_least covers escalated value_cmp value_eq value_lt name_eq is_hold_of opposes stands_before world_from world is_table_mode is_row_mode table_mode
-from0_10 = link head lines w_10 (conn 0) (Some o0_10) e_10 rest_11 (Some o0_11) (λ h k. refl) (refl) from0_11
+from0_10 = link head lines w_10 (conn 0) None e_10 rest_11 None (λ h. not_own h) (refl) from0_11
 
 from0_9 : ConductFrom head lines w_9 (conn 0) None rest_9
 unfolding mode_number mode_eq goes_with compatible joined at_least covers escalated value_cmp value_eq value_lt name_eq is_hold_of opposes stands_before world_from world is_table_mode is_row_mode table_mode
-from0_9 = begins head lines w_9 (conn 0) o0_9 e_9 rest_10 refl (refl) (link head lines w_9 (conn 0) (Some o0_9) e_9 rest_10 (Some o0_10) (λ h k. refl) (refl) from0_10)
+from0_9 = link head lines w_9 (conn 0) None e_9 rest_10 None (λ h. not_own h) (refl) from0_10
 
-from0_8 : ConductFrom head lines w_8 (conn 0) None rest_8
+from0_8 : ConductFrom head lines w_8 (conn 0) (Some o0_8) rest_8
 unfolding mode_number mode_eq goes_with compatible joined at_least covers escalated value_cmp value_eq value_lt name_eq is_hold_of opposes stands_before world_from world is_table_mode is_row_mode table_mode
-from0_8 = link head lines w_8 (conn 0) None e_8 rest_9 None (λ h. not_own h) (refl) from0_9
+from0_8 = link head lines w_8 (conn 0) (Some o0_8) e_8 rest_9 None (λ h k. refl) (refl) from0_9
 
 from0_7 : ConductFrom head lines w_7 (conn 0) (Some o0_7) rest_7
 unfolding mode_number mode_eq goes_with compatible joined at_least covers escalated value_cmp value_eq value_lt name_eq is_hold_of opposes stands_before world_from world is_table_mode is_row_mode table_mode
-from0_7 = link head lines w_7 (conn 0) (Some o0_7) e_7 rest_8 None (λ h k. refl) (refl) from0_8
+from0_7 = link head lines w_7 (conn 0) (Some o0_7) e_7 rest_8 (Some o0_8) (λ h k. refl) (refl) from0_8
 
 from0_6 : ConductFrom head lines w_6 (conn 0) (Some o0_6) rest_6
 unfolding mode_number mode_eq goes_with compatible joined at_least covers escalated value_cmp value_eq value_lt name_eq is_hold_of opposes stands_before world_from world is_table_mode is_row_mode table_mode
 from0_6 = link head lines w_6 (conn 0) (Some o0_6) e_6 rest_7 (Some o0_7) (λ h k. refl) (refl) from0_7
 
-from0_5 : ConductFrom head lines w_5 (conn 0) None rest_5
+from0_5 : ConductFrom head lines w_5 (conn 0) (Some o0_5) rest_5
 unfolding mode_number mode_eq goes_with compatible joined at_least covers escalated value_cmp value_eq value_lt name_eq is_hold_of opposes stands_before world_from world is_table_mode is_row_mode table_mode
-from0_5 = begins head lines w_5 (conn 0) o0_5 e_5 rest_6 refl (refl) (link head lines w_5 (conn 0) (Some o0_5) e_5 rest_6 (Some o0_6) (λ h k. refl) (refl) from0_6)
+from0_5 = link head lines w_5 (conn 0) (Some o0_5) e_5 rest_6 (Some o0_6) (λ h k. refl) (refl) from0_6
 
-from0_4 : ConductFrom head lines w_4 (conn 0) None rest_4
+from0_4 : ConductFrom head lines w_4 (conn 0) (Some o0_4) rest_4
 unfolding mode_number mode_eq goes_with compatible joined at_least covers escalated value_cmp value_eq value_lt name_eq is_hold_of opposes stands_before world_from world is_table_mode is_row_mode table_mode
-from0_4 = link head lines w_4 (conn 0) None e_4 rest_5 None (λ h. not_own h) (refl) from0_5
+from0_4 = link head lines w_4 (conn 0) (Some o0_4) e_4 rest_5 (Some o0_5) (λ h k. refl) (refl) from0_5
 
-from0_3 : ConductFrom head lines w_3 (conn 0) None rest_3
+from0_3 : ConductFrom head lines w_3 (conn 0) (Some o0_3) rest_3
 unfolding mode_number mode_eq goes_with compatible joined at_least covers escalated value_cmp value_eq value_lt name_eq is_hold_of opposes stands_before world_from world is_table_mode is_row_mode table_mode
-from0_3 = link head lines w_3 (conn 0) None e_3 rest_4 None (λ h. not_own h) (refl) from0_4
+from0_3 = link head lines w_3 (conn 0) (Some o0_3) e_3 rest_4 (Some o0_4) (λ h k. refl) (ap (λ x. past_look head lines w_3 (conn 0) o0_3 (table 0) (rid 1) Alter x) (ap is_true (truth_8 ((Int (pos 2)) ∷ (Int (pos 200)) ∷ [])))) from0_4
 
-from0_2 : ConductFrom head lines w_2 (conn 0) None rest_2
+from0_2 : ConductFrom head lines w_2 (conn 0) (Some o0_2) rest_2
 unfolding mode_number mode_eq goes_with compatible joined at_least covers escalated value_cmp value_eq value_lt name_eq is_hold_of opposes stands_before world_from world is_table_mode is_row_mode table_mode
-from0_2 = link head lines w_2 (conn 0) None e_2 rest_3 None (λ h. not_own h) (refl) from0_3
+from0_2 = link head lines w_2 (conn 0) (Some o0_2) e_2 rest_3 (Some o0_3) (λ h k. refl) (ap (λ x. past_look head lines w_2 (conn 0) o0_2 (table 0) (rid 0) Alter x) (ap is_true (truth_8 ((Int (pos 1)) ∷ (Int (pos 100)) ∷ [])))) from0_3
 
 from0_1 : ConductFrom head lines w_1 (conn 0) None rest_1
 unfolding mode_number mode_eq goes_with compatible joined at_least covers escalated value_cmp value_eq value_lt name_eq is_hold_of opposes stands_before world_from world is_table_mode is_row_mode table_mode
-from0_1 = link head lines w_1 (conn 0) None e_1 rest_2 None (λ h. not_own h) (refl) from0_2
+from0_1 = begins head lines w_1 (conn 0) o0_1 e_1 rest_2 refl (ap (λ x. Some (begun head w_1 (conn 0) statement_8 (change_list head (table 0) (level_in (w_1.setting (conn 0)) None) x))) plan_8) (link head lines w_1 (conn 0) (Some o0_1) e_1 rest_2 (Some o0_2) (λ h k. refl) (refl) from0_2)
 
 from0_0 : ConductFrom head lines w_0 (conn 0) None rest_0
 unfolding mode_number mode_eq goes_with compatible joined at_least covers escalated value_cmp value_eq value_lt name_eq is_hold_of opposes stands_before world_from world is_table_mode is_row_mode table_mode
@@ -443,41 +531,79 @@ conduct_0 : Conduct head lines es (conn 0)
 unfolding Conduct
 conduct_0 = from0_0
 
-abbrev o1_1 : Point
-o1_1 = record { statement = statement_9; columns = []; floor = 0; left = (Asks (Table (table 0)) Is ∷ IndexScan (record { table = table 0; want = Repeat; index = index 0; column = 0; range = range (Some (bound (Int (pos 10)) true)) (Some (bound (Int (pos 20)) true)); guarded = true }) None ∷ Answer ∷ []); kept = Given [] }
+abbrev o1_10 : Point
+o1_10 = record { statement = statement_9; columns = []; floor = 1; left = (Asks (Table (table 0)) Is ∷ TableScan (table 0) Current 0 ∷ Answer ∷ []); kept = Given [] }
 
-abbrev o1_2 : Point
-o1_2 = record { statement = statement_9; columns = []; floor = 0; left = (IndexScan (record { table = table 0; want = Repeat; index = index 0; column = 0; range = range (Some (bound (Int (pos 10)) true)) (Some (bound (Int (pos 20)) true)); guarded = true }) None ∷ Answer ∷ []); kept = Given [] }
-
-abbrev o1_3 : Point
-o1_3 = record { statement = statement_9; columns = []; floor = 0; left = (Answer ∷ []); kept = Given [] }
+abbrev o1_11 : Point
+o1_11 = record { statement = statement_9; columns = []; floor = 1; left = (TableScan (table 0) Current 0 ∷ Answer ∷ []); kept = Given [] }
 
 abbrev o1_12 : Point
-o1_12 = record { statement = statement_12; columns = []; floor = 1; left = (Settles ∷ []); kept = Found [] }
+o1_12 = record { statement = statement_9; columns = []; floor = 1; left = (TableScan (table 0) Current 1 ∷ Answer ∷ []); kept = Given (((Int (pos 100)) ∷ []) ∷ []) }
+
+abbrev o1_13 : Point
+o1_13 = record { statement = statement_9; columns = []; floor = 1; left = (TableScan (table 0) Current 2 ∷ Answer ∷ []); kept = Given (((Int (pos 100)) ∷ []) ∷ []) }
+
+abbrev o1_14 : Point
+o1_14 = record { statement = statement_9; columns = []; floor = 1; left = (Answer ∷ []); kept = Given (((Int (pos 100)) ∷ []) ∷ []) }
+
+abbrev o1_18 : Point
+o1_18 = record { statement = statement_11; columns = []; floor = 1; left = (Asks (Table (table 0)) Is ∷ TableScan (table 0) Current 0 ∷ Answer ∷ []); kept = Given [] }
+
+abbrev o1_19 : Point
+o1_19 = record { statement = statement_11; columns = []; floor = 1; left = (TableScan (table 0) Current 0 ∷ Answer ∷ []); kept = Given [] }
+
+abbrev o1_20 : Point
+o1_20 = record { statement = statement_11; columns = []; floor = 1; left = (TableScan (table 0) Current 1 ∷ Answer ∷ []); kept = Given (((Int (pos 110)) ∷ []) ∷ []) }
+
+abbrev o1_21 : Point
+o1_21 = record { statement = statement_11; columns = []; floor = 1; left = (TableScan (table 0) Current 2 ∷ Answer ∷ []); kept = Given (((Int (pos 110)) ∷ []) ∷ []) }
+
+abbrev o1_22 : Point
+o1_22 = record { statement = statement_11; columns = []; floor = 1; left = (Answer ∷ []); kept = Given (((Int (pos 110)) ∷ []) ∷ []) }
+
+from1_28 : ConductFrom head lines w_28 (conn 1) None rest_28
+unfolding mode_number mode_eq goes_with compatible joined at_least covers escalated value_cmp value_eq value_lt name_eq is_hold_of opposes stands_before world_from world is_table_mode is_row_mode table_mode ConductFrom
+from1_28 = tt
+
+from1_27 : ConductFrom head lines w_27 (conn 1) None rest_27
+unfolding mode_number mode_eq goes_with compatible joined at_least covers escalated value_cmp value_eq value_lt name_eq is_hold_of opposes stands_before world_from world is_table_mode is_row_mode table_mode
+from1_27 = link head lines w_27 (conn 1) None e_27 rest_28 None (λ h. not_own h) (refl) from1_28
+
+from1_26 : ConductFrom head lines w_26 (conn 1) None rest_26
+unfolding mode_number mode_eq goes_with compatible joined at_least covers escalated value_cmp value_eq value_lt name_eq is_hold_of opposes stands_before world_from world is_table_mode is_row_mode table_mode
+from1_26 = link head lines w_26 (conn 1) None e_26 rest_27 None (λ h. refl) (refl) from1_27
+
+from1_25 : ConductFrom head lines w_25 (conn 1) None rest_25
+unfolding mode_number mode_eq goes_with compatible joined at_least covers escalated value_cmp value_eq value_lt name_eq is_hold_of opposes stands_before world_from world is_table_mode is_row_mode table_mode
+from1_25 = link head lines w_25 (conn 1) None e_25 rest_26 None (λ h. not_own h) (refl) from1_26
+
+from1_24 : ConductFrom head lines w_24 (conn 1) None rest_24
+unfolding mode_number mode_eq goes_with compatible joined at_least covers escalated value_cmp value_eq value_lt name_eq is_hold_of opposes stands_before world_from world is_table_mode is_row_mode table_mode
+from1_24 = link head lines w_24 (conn 1) None e_24 rest_25 None (λ h. not_own h) (refl) from1_25
 
 from1_23 : ConductFrom head lines w_23 (conn 1) None rest_23
-unfolding mode_number mode_eq goes_with compatible joined at_least covers escalated value_cmp value_eq value_lt name_eq is_hold_of opposes stands_before world_from world is_table_mode is_row_mode table_mode ConductFrom
-from1_23 = tt
-
-from1_22 : ConductFrom head lines w_22 (conn 1) None rest_22
 unfolding mode_number mode_eq goes_with compatible joined at_least covers escalated value_cmp value_eq value_lt name_eq is_hold_of opposes stands_before world_from world is_table_mode is_row_mode table_mode
-from1_22 = link head lines w_22 (conn 1) None e_22 rest_23 None (λ h. not_own h) (refl) from1_23
+from1_23 = link head lines w_23 (conn 1) None e_23 rest_24 None (λ h. not_own h) (refl) from1_24
 
-from1_21 : ConductFrom head lines w_21 (conn 1) None rest_21
+from1_22 : ConductFrom head lines w_22 (conn 1) (Some o1_22) rest_22
 unfolding mode_number mode_eq goes_with compatible joined at_least covers escalated value_cmp value_eq value_lt name_eq is_hold_of opposes stands_before world_from world is_table_mode is_row_mode table_mode
-from1_21 = link head lines w_21 (conn 1) None e_21 rest_22 None (λ h. refl) (refl) from1_22
+from1_22 = link head lines w_22 (conn 1) (Some o1_22) e_22 rest_23 None (λ h k. refl) (refl) from1_23
 
-from1_20 : ConductFrom head lines w_20 (conn 1) None rest_20
+from1_21 : ConductFrom head lines w_21 (conn 1) (Some o1_21) rest_21
 unfolding mode_number mode_eq goes_with compatible joined at_least covers escalated value_cmp value_eq value_lt name_eq is_hold_of opposes stands_before world_from world is_table_mode is_row_mode table_mode
-from1_20 = link head lines w_20 (conn 1) None e_20 rest_21 None (λ h. not_own h) (refl) from1_21
+from1_21 = link head lines w_21 (conn 1) (Some o1_21) e_21 rest_22 (Some o1_22) (λ h k. refl) (refl) from1_22
 
-from1_19 : ConductFrom head lines w_19 (conn 1) None rest_19
+from1_20 : ConductFrom head lines w_20 (conn 1) (Some o1_20) rest_20
 unfolding mode_number mode_eq goes_with compatible joined at_least covers escalated value_cmp value_eq value_lt name_eq is_hold_of opposes stands_before world_from world is_table_mode is_row_mode table_mode
-from1_19 = link head lines w_19 (conn 1) None e_19 rest_20 None (λ h. not_own h) (refl) from1_20
+from1_20 = link head lines w_20 (conn 1) (Some o1_20) e_20 rest_21 (Some o1_21) (λ h k. refl) (ap (λ x. past_look head lines w_20 (conn 1) o1_20 (table 0) (rid 1) Current x) (ap is_true (truth_11 ((Int (pos 2)) ∷ (Int (pos 200)) ∷ [])))) from1_21
+
+from1_19 : ConductFrom head lines w_19 (conn 1) (Some o1_19) rest_19
+unfolding mode_number mode_eq goes_with compatible joined at_least covers escalated value_cmp value_eq value_lt name_eq is_hold_of opposes stands_before world_from world is_table_mode is_row_mode table_mode
+from1_19 = link head lines w_19 (conn 1) (Some o1_19) e_19 rest_20 (Some o1_20) (λ h k. refl) (ap (λ x. past_look head lines w_19 (conn 1) o1_19 (table 0) (rid 0) Current x) (ap is_true (truth_11 ((Int (pos 1)) ∷ (Int (pos 110)) ∷ [])))) from1_20
 
 from1_18 : ConductFrom head lines w_18 (conn 1) None rest_18
 unfolding mode_number mode_eq goes_with compatible joined at_least covers escalated value_cmp value_eq value_lt name_eq is_hold_of opposes stands_before world_from world is_table_mode is_row_mode table_mode
-from1_18 = link head lines w_18 (conn 1) None e_18 rest_19 None (λ h. not_own h) (refl) from1_19
+from1_18 = begins head lines w_18 (conn 1) o1_18 e_18 rest_19 refl (ap (λ x. Some (begun head w_18 (conn 1) statement_11 (select_list head (table 0) (level_in (w_18.setting (conn 1)) None) x))) plan_11) (link head lines w_18 (conn 1) (Some o1_18) e_18 rest_19 (Some o1_19) (λ h k. refl) (refl) from1_19)
 
 from1_17 : ConductFrom head lines w_17 (conn 1) None rest_17
 unfolding mode_number mode_eq goes_with compatible joined at_least covers escalated value_cmp value_eq value_lt name_eq is_hold_of opposes stands_before world_from world is_table_mode is_row_mode table_mode
@@ -491,25 +617,25 @@ from1_15 : ConductFrom head lines w_15 (conn 1) None rest_15
 unfolding mode_number mode_eq goes_with compatible joined at_least covers escalated value_cmp value_eq value_lt name_eq is_hold_of opposes stands_before world_from world is_table_mode is_row_mode table_mode
 from1_15 = link head lines w_15 (conn 1) None e_15 rest_16 None (λ h. not_own h) (refl) from1_16
 
-from1_14 : ConductFrom head lines w_14 (conn 1) None rest_14
+from1_14 : ConductFrom head lines w_14 (conn 1) (Some o1_14) rest_14
 unfolding mode_number mode_eq goes_with compatible joined at_least covers escalated value_cmp value_eq value_lt name_eq is_hold_of opposes stands_before world_from world is_table_mode is_row_mode table_mode
-from1_14 = link head lines w_14 (conn 1) None e_14 rest_15 None (λ h. not_own h) (refl) from1_15
+from1_14 = link head lines w_14 (conn 1) (Some o1_14) e_14 rest_15 None (λ h k. refl) (refl) from1_15
 
-from1_13 : ConductFrom head lines w_13 (conn 1) None rest_13
+from1_13 : ConductFrom head lines w_13 (conn 1) (Some o1_13) rest_13
 unfolding mode_number mode_eq goes_with compatible joined at_least covers escalated value_cmp value_eq value_lt name_eq is_hold_of opposes stands_before world_from world is_table_mode is_row_mode table_mode
-from1_13 = link head lines w_13 (conn 1) None e_13 rest_14 None (λ h. not_own h) (refl) from1_14
+from1_13 = link head lines w_13 (conn 1) (Some o1_13) e_13 rest_14 (Some o1_14) (λ h k. refl) (refl) from1_14
 
-from1_12 : ConductFrom head lines w_12 (conn 1) None rest_12
+from1_12 : ConductFrom head lines w_12 (conn 1) (Some o1_12) rest_12
 unfolding mode_number mode_eq goes_with compatible joined at_least covers escalated value_cmp value_eq value_lt name_eq is_hold_of opposes stands_before world_from world is_table_mode is_row_mode table_mode
-from1_12 = begins head lines w_12 (conn 1) o1_12 e_12 rest_13 refl (refl) (link head lines w_12 (conn 1) (Some o1_12) e_12 rest_13 None (λ h k. refl) (refl) from1_13)
+from1_12 = link head lines w_12 (conn 1) (Some o1_12) e_12 rest_13 (Some o1_13) (λ h k. refl) (ap (λ x. past_look head lines w_12 (conn 1) o1_12 (table 0) (rid 1) Current x) (ap is_true (truth_9 ((Int (pos 2)) ∷ (Int (pos 200)) ∷ [])))) from1_13
 
-from1_11 : ConductFrom head lines w_11 (conn 1) None rest_11
+from1_11 : ConductFrom head lines w_11 (conn 1) (Some o1_11) rest_11
 unfolding mode_number mode_eq goes_with compatible joined at_least covers escalated value_cmp value_eq value_lt name_eq is_hold_of opposes stands_before world_from world is_table_mode is_row_mode table_mode
-from1_11 = link head lines w_11 (conn 1) None e_11 rest_12 None (λ h. not_own h) (refl) from1_12
+from1_11 = link head lines w_11 (conn 1) (Some o1_11) e_11 rest_12 (Some o1_12) (λ h k. refl) (ap (λ x. past_look head lines w_11 (conn 1) o1_11 (table 0) (rid 0) Current x) (ap is_true (truth_9 ((Int (pos 1)) ∷ (Int (pos 100)) ∷ [])))) from1_12
 
 from1_10 : ConductFrom head lines w_10 (conn 1) None rest_10
 unfolding mode_number mode_eq goes_with compatible joined at_least covers escalated value_cmp value_eq value_lt name_eq is_hold_of opposes stands_before world_from world is_table_mode is_row_mode table_mode
-from1_10 = link head lines w_10 (conn 1) None e_10 rest_11 None (λ h. not_own h) (refl) from1_11
+from1_10 = begins head lines w_10 (conn 1) o1_10 e_10 rest_11 refl (ap (λ x. Some (begun head w_10 (conn 1) statement_9 (select_list head (table 0) (level_in (w_10.setting (conn 1)) None) x))) plan_9) (link head lines w_10 (conn 1) (Some o1_10) e_10 rest_11 (Some o1_11) (λ h k. refl) (refl) from1_11)
 
 from1_9 : ConductFrom head lines w_9 (conn 1) None rest_9
 unfolding mode_number mode_eq goes_with compatible joined at_least covers escalated value_cmp value_eq value_lt name_eq is_hold_of opposes stands_before world_from world is_table_mode is_row_mode table_mode
@@ -535,17 +661,17 @@ from1_4 : ConductFrom head lines w_4 (conn 1) None rest_4
 unfolding mode_number mode_eq goes_with compatible joined at_least covers escalated value_cmp value_eq value_lt name_eq is_hold_of opposes stands_before world_from world is_table_mode is_row_mode table_mode
 from1_4 = link head lines w_4 (conn 1) None e_4 rest_5 None (λ h. not_own h) (refl) from1_5
 
-from1_3 : ConductFrom head lines w_3 (conn 1) (Some o1_3) rest_3
+from1_3 : ConductFrom head lines w_3 (conn 1) None rest_3
 unfolding mode_number mode_eq goes_with compatible joined at_least covers escalated value_cmp value_eq value_lt name_eq is_hold_of opposes stands_before world_from world is_table_mode is_row_mode table_mode
-from1_3 = link head lines w_3 (conn 1) (Some o1_3) e_3 rest_4 None (λ h k. refl) (refl) from1_4
+from1_3 = link head lines w_3 (conn 1) None e_3 rest_4 None (λ h. not_own h) (refl) from1_4
 
-from1_2 : ConductFrom head lines w_2 (conn 1) (Some o1_2) rest_2
+from1_2 : ConductFrom head lines w_2 (conn 1) None rest_2
 unfolding mode_number mode_eq goes_with compatible joined at_least covers escalated value_cmp value_eq value_lt name_eq is_hold_of opposes stands_before world_from world is_table_mode is_row_mode table_mode
-from1_2 = link head lines w_2 (conn 1) (Some o1_2) e_2 rest_3 (Some o1_3) (λ h k. refl) (refl) from1_3
+from1_2 = link head lines w_2 (conn 1) None e_2 rest_3 None (λ h. not_own h) (refl) from1_3
 
 from1_1 : ConductFrom head lines w_1 (conn 1) None rest_1
 unfolding mode_number mode_eq goes_with compatible joined at_least covers escalated value_cmp value_eq value_lt name_eq is_hold_of opposes stands_before world_from world is_table_mode is_row_mode table_mode
-from1_1 = begins head lines w_1 (conn 1) o1_1 e_1 rest_2 refl (ap (λ x. Some (begun head w_1 (conn 1) statement_9 (select_list head (table 0) (level_in (w_1.setting (conn 1)) None) x))) plan_9) (link head lines w_1 (conn 1) (Some o1_1) e_1 rest_2 (Some o1_2) (λ h k. refl) (refl) from1_2)
+from1_1 = link head lines w_1 (conn 1) None e_1 rest_2 None (λ h. not_own h) (refl) from1_2
 
 from1_0 : ConductFrom head lines w_0 (conn 1) None rest_0
 unfolding mode_number mode_eq goes_with compatible joined at_least covers escalated value_cmp value_eq value_lt name_eq is_hold_of opposes stands_before world_from world is_table_mode is_row_mode table_mode
@@ -557,12 +683,12 @@ conduct_1 = from1_0
 
 paced : Paced head lines es
 unfolding mode_number mode_eq goes_with compatible joined at_least covers escalated value_cmp value_eq value_lt name_eq is_hold_of opposes stands_before world_from world is_table_mode is_row_mode table_mode PacedFrom Paced
-paced = (refl, (tt, (tt, (tt, (refl, (tt, (tt, (tt, (refl, (tt, (tt, (refl, (tt, (tt, (tt, (tt, (refl, (tt, (tt, (tt, (refl, (tt, (refl, tt)))))))))))))))))))))))
+paced = (refl, (tt, (tt, (tt, (tt, (tt, (tt, (tt, (tt, (refl, (tt, (tt, (tt, (tt, (tt, (refl, (tt, (refl, (tt, (tt, (tt, (tt, (tt, (refl, (tt, (refl, (tt, (refl, tt))))))))))))))))))))))))))))
 
 scheduled : Scheduled head lines None es
 unfolding mode_number mode_eq goes_with compatible joined at_least covers escalated value_cmp value_eq value_lt name_eq is_hold_of opposes stands_before world_from world is_table_mode is_row_mode table_mode ScheduledFrom Scheduled
-scheduled = (refl, (λ k. refl, λ h. no_stop h), (refl, tt, (refl, tt, (refl, tt, (refl, (λ k. refl, λ h. no_stop h), (refl, tt, (refl, tt, (refl, tt, (refl, (λ k. refl, λ h. no_stop h), (refl, tt, (refl, tt, (refl, (λ k. refl, λ h. no_stop h), (refl, tt, (refl, tt, (refl, tt, (refl, tt, (refl, (λ k. refl, λ h. no_stop h), (refl, tt, (refl, tt, (refl, tt, (refl, (λ k. refl, λ h. no_stop h), (refl, tt, (refl, (λ k. refl, λ h. no_stop h), tt)))))))))))))))))))))))
+scheduled = (refl, (λ k. refl, λ h. no_stop h), (refl, tt, (refl, tt, (refl, tt, (refl, tt, (refl, tt, (refl, tt, (refl, tt, (refl, tt, (refl, (λ k. refl, λ h. no_stop h), (refl, tt, (refl, tt, (refl, tt, (refl, tt, (refl, tt, (refl, (λ k. refl, λ h. no_stop h), (refl, tt, (refl, (λ k. refl, λ h. no_stop h), (refl, tt, (refl, tt, (refl, tt, (refl, tt, (refl, tt, (refl, (λ k. refl, λ h. no_stop h), (refl, tt, (refl, (λ k. refl, λ h. no_stop h), (refl, tt, (refl, (λ k. refl, λ h. no_stop h), tt))))))))))))))))))))))))))))
 
 whole : IsWhole (record { head = head; lines = lines }) es
 unfolding mode_number mode_eq goes_with compatible joined at_least covers escalated value_cmp value_eq value_lt name_eq is_hold_of opposes stands_before world_from world is_table_mode is_row_mode table_mode
-whole = record { finished = (take 22 es, refl); unstopped = refl; lines = refl; ended = refl }
+whole = record { finished = (take 27 es, refl); unstopped = refl; lines = refl; ended = refl }
