@@ -25,3 +25,8 @@ pub mod ProgressEdges
 pub mod Progress
 pub mod Fitting
 pub mod Leads
+pub mod WritesFit
+pub mod MadeStands
+pub mod Needs
+pub mod Promised
+pub mod NeedsBegin

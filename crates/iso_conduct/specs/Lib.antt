@@ -10,3 +10,4 @@ pub mod Pacing
 pub mod Schedule
 pub mod Legal
 pub mod Whole
+pub mod Standing

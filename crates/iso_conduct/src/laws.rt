@@ -2,17 +2,18 @@
 
 ghost use Rattle.std.specs.List.{list_any};
 ghost use Rattle.std.specs.Prelude.{◌≡◌, ◌≤◌, ◌++◌, true, false, length, List, [], ◌∷◌, Option, Some};
-ghost use Rattle.iso_conduct.specs.Conduct.{MayIn, is_by, point_after, stops_for_memory};
+ghost use Rattle.iso_conduct.specs.Conduct.{MayIn, is_by, made, point_after, stops_for_memory};
 ghost use Rattle.iso_conduct.specs.Legal.{AreGuarded, IsFinished, IsLegal};
 ghost use Rattle.iso_conduct.specs.Pacing.{FirstLine, Paced, lines_left};
 ghost use Rattle.iso_conduct.specs.Parts.{Part};
 ghost use Rattle.iso_conduct.specs.Points.{Point, updated_columns};
 ghost use Rattle.iso_conduct.specs.Schedule.{actors, can_act, first_step};
+ghost use Rattle.iso_conduct.specs.Standing.{MayGoOn};
 ghost use Rattle.iso_conduct.specs.Whole.{IsWhole};
 ghost use Rattle.iso_conduct.specs.Courses.{fits_table, key_within, keyed_within, reads_within};
 ghost use Rattle.iso_history.specs.After.{world};
-ghost use Rattle.iso_history.specs.Legal.{ByDispatcher, Ground};
-ghost use Rattle.iso_history.specs.Makers.{by_dispatcher};
+ghost use Rattle.iso_history.specs.Legal.{Allowed, ByDispatcher, Ground};
+ghost use Rattle.iso_history.specs.Makers.{by_agent, by_dispatcher};
 ghost use Rattle.iso_history.specs.Phases.{phase};
 ghost use Rattle.iso_history.specs.Stops.{history_limit};
 ghost use Rattle.iso_history.specs.World.{World};
@@ -23,7 +24,7 @@ ghost use Rattle.iso_script.specs.declared.script.Line.{Line};
 ghost use Rattle.iso_script.specs.declared.script.Script.{Script};
 ghost use Rattle.iso_sql.specs.Sound.{columns_of, is_sound_statement};
 ghost use Rattle.iso_sql.specs.declared.statement.Statement.{Statement};
-ghost use Rattle.iso_types.specs.Head.{row_fits};
+ghost use Rattle.iso_types.specs.Head.{is_conn, row_fits};
 ghost use Rattle.iso_types.specs.declared.head.Head.{Head};
 ghost use Rattle.iso_types.specs.declared.value.Conn.{Conn};
 ghost use Rattle.iso_types.specs.declared.value.TableId.{TableId};
@@ -86,4 +87,13 @@ pub fn shown_rows_suit()
 pub fn first_steps_stand()
     ensures { (head : Head) (w : World) (lines : List Line) (a : Act) → FirstLine head lines → first_step head w lines ≡ Some a
         → ByDispatcher head w a × (w.pace.finished ≡ false) }
+{}
+
+/// A step that its connection may make, as its call asks, has an entry that may stand: what `made` records, a Stopped in its place
+/// where the history is full.
+pub fn made_stands()
+    ensures { (script : Script) (es : List Entry) (c : Conn) (p : Point) → IsSound script → Ground script.head es
+        → is_conn script.head c ≡ true → (world script.head es).pace.finished ≡ false
+        → MayGoOn script.head (world script.head es) c p
+        → Allowed script.head (world script.head es) (by_agent c (made script.head (world script.head es) c p)) }
 {}
