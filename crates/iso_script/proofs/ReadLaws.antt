@@ -30,20 +30,20 @@ Judges s line (Err why) = wrong s line why
 abbrev Says : Reader → List ℕ → Checked Event → Type 0
 Says s line c = rule s.place s line (tokens line) c
 
-judges_built : (s : Reader) (line : List ℕ) (e : Event) (b : Bool) → is_built s e ≡ b → Says s line (checked e None) → Judges s line (cond b (Ok e) (Err cause.Unbuilt))
+judges_built : (s : Reader) (line : List ℕ) (e : Event) (b : Bool) → is_built e ≡ b → Says s line (checked e None) → Judges s line (cond b (Ok e) (Err cause.Unbuilt))
 unfolding Judges
 judges_built s line e true is l = (l, is)
 judges_built s line e false is l = inr (inr (e, l, is, refl))
 
-judges_fault : (s : Reader) (line : List ℕ) (e : Event) (o : Option Fault) → Says s line (checked e o) → Judges s line (verdict s (checked e o))
+judges_fault : (s : Reader) (line : List ℕ) (e : Event) (o : Option Fault) → Says s line (checked e o) → Judges s line (verdict (checked e o))
 unfolding Judges
 judges_fault s line e (Some f) l = inr (inl (e, f, l, refl))
-judges_fault s line e None l = judges_built s line e (is_built s e) refl l
+judges_fault s line e None l = judges_built s line e (is_built e) refl l
 
-judges : (s : Reader) (line : List ℕ) (c : Checked Event) → Says s line c → Judges s line (verdict s c)
+judges : (s : Reader) (line : List ℕ) (c : Checked Event) → Says s line c → Judges s line (verdict c)
 judges s line c l = judges_fault s line c.value c.fault l
 
-pub judged : (s : Reader) (line : List ℕ) (ts : List Token) (c : Checked Event) (r : Result Event LineCause) → ts ≡ tokens line → r ≡ verdict s c → rule s.place s line ts c → Judges s line r
+pub judged : (s : Reader) (line : List ℕ) (ts : List Token) (c : Checked Event) (r : Result Event LineCause) → ts ≡ tokens line → r ≡ verdict c → rule s.place s line ts c → Judges s line r
 judged s line ts c r same is l = subst (λ (z : Result Event LineCause). Judges s line z) (sym is) (judges s line c (subst (λ (z : List Token). rule s.place s line z c) same l))
 
 same_ok : (d e : Event) (r : Result Event LineCause) → r ≡ Ok d → r ≡ Ok e → d ≡ e
@@ -88,7 +88,7 @@ module _ (s : Reader) (line : List ℕ) where
   way : ((e : Event) × fits s line e) ⊎ ((why : LineCause) × wrong s line why)
   unfolding Judges
   way = elim (rule_way s.place s line (tokens line)) [
-    | inl w ↦ known (verdict s w.0) (judges s line w.0 w.1)
+    | inl w ↦ known (verdict w.0) (judges s line w.0 w.1)
     | inr w ↦ inr (cause.Syntax (place_of (tokens line) w.0 (length line)), inl (w.0, w.1, refl))
   ]
     where
@@ -101,7 +101,7 @@ module _ (s : Reader) (line : List ℕ) where
     | inl m ↦ rule_apart s.place s line (tokens line) (checked e None) m.0 f.0 m.1
     | inr o ↦ elim o [
       | inl m ↦ no_some m.1 (fault_is (checked e None) (checked m.0 (Some m.1)) (same (checked e None) (checked m.0 (Some m.1)) f.0 m.2))
-      | inr u ↦ no_both (is_built s e) f.1 (ap (is_built s) (value_is (checked e None) (checked u.0 None) (same (checked e None) (checked u.0 None) f.0 u.1)) ∙ u.2)
+      | inr u ↦ no_both (is_built e) f.1 (ap is_built (value_is (checked e None) (checked u.0 None) (same (checked e None) (checked u.0 None) f.0 u.1)) ∙ u.2)
     ]
   ]
 

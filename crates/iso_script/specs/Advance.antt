@@ -1,5 +1,5 @@
 -- What a line does to what was read before it.
-use Rattle.std.specs.Prelude.{ℕ, true, not, [], ◌∷◌, ◌++◌}
+use Rattle.std.specs.Prelude.{ℕ, true, [], ◌∷◌, ◌++◌}
 use Rattle.iso_types.specs.declared.head.Config.{Config}
 use Rattle.iso_types.specs.declared.head.Head.{Head}
 use Rattle.iso_script.specs.declared.event.Event.{Event}
@@ -9,7 +9,6 @@ use Rattle.iso_script.specs.declared.event.Setting.TheVariants as setting
 use Rattle.iso_script.specs.declared.event.Settings.{Settings}
 use Rattle.iso_script.specs.declared.reader.Place.TheVariants as place
 use Rattle.iso_script.specs.declared.reader.Reader.{Reader}
-use Rattle.iso_script.specs.Built.{is_commit}
 
 -- the settings with this one
 abbrev pub with_setting : Config → Setting → Config
@@ -41,5 +40,5 @@ advance s n (event.Row f) = with_head s (record s.script.head { rows = s.script.
 advance s n (event.Connect d) = with_head s (record s.script.head { conns = s.script.head.conns ++ d ∷ [] })
 advance s n event.Begin = record s { place = place.Body }
 advance s n (event.Asked c free w) =
-    record s { unfinished = not (is_commit w); script = record { head = s.script.head; lines = s.script.lines ++ record { number = n; conn = c; free = free; what = w } ∷ [] } }
+    record s { script = record { head = s.script.head; lines = s.script.lines ++ record { number = n; conn = c; free = free; what = w } ∷ [] } }
 advance s n event.End = record s { place = place.After }

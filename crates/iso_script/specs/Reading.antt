@@ -24,7 +24,7 @@ use Rattle.iso_script.specs.Unbuilt.{is_built}
 
 -- the line is this event in this state: it says so without a fault, and it is built
 abbrev pub fits : Reader → List ℕ → Event → Type 0
-fits s line e = rule s.place s line (tokens line) (checked e None) × (is_built s e ≡ true)
+fits s line e = rule s.place s line (tokens line) (checked e None) × (is_built e ≡ true)
 
 -- the cause of a fault, with its place
 abbrev pub cause_of : Fault → LineCause
@@ -58,7 +58,7 @@ IsFaulty s line why = (e : Event) × (f : Fault) × rule s.place s line (tokens 
 
 -- it is a line of this position without a fault, and not built yet
 abbrev pub IsUnbuilt : Reader → List ℕ → LineCause → Type 0
-IsUnbuilt s line why = (e : Event) × rule s.place s line (tokens line) (checked e None) × (is_built s e ≡ false) × (why ≡ cause.Unbuilt)
+IsUnbuilt s line why = (e : Event) × rule s.place s line (tokens line) (checked e None) × (is_built e ≡ false) × (why ≡ cause.Unbuilt)
 
 -- what is wrong with the line in this state
 abbrev pub wrong : Reader → List ℕ → LineCause → Type 0
@@ -84,7 +84,7 @@ empty = record { head = record { config = defaults; tables = []; indexes = []; r
 
 -- before the first line
 abbrev pub start : Reader
-start = record { place = place.First; set = none_set; unfinished = false; script = empty }
+start = record { place = place.First; set = none_set; script = empty }
 
 -- a missing END is a fault of the line after the last, at place 1
 abbrev pub unended : LineCause

@@ -13,8 +13,8 @@ use Rattle.iso_script.specs.Advance.{advance}
 use Rattle.iso_script.specs.Reading.{cause_of, fits, wrong}
 
 -- what a line comes to that says this with this least fault
-abbrev pub verdict : Reader → Checked Event → Result Event LineCause
-verdict s c = elim c.fault [ Some f ↦ Err (cause_of f) | None ↦ (if is_built s c.value then Ok c.value else Err cause.Unbuilt) ]
+abbrev pub verdict : Checked Event → Result Event LineCause
+verdict c = elim c.fault [ Some f ↦ Err (cause_of f) | None ↦ (if is_built c.value then Ok c.value else Err cause.Unbuilt) ]
 
 -- the line's event, or its fault
 abbrev pub EventAnswers : Reader → List ℕ → ℕ → Result Event ScriptFault → Type 0

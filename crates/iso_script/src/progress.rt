@@ -134,7 +134,7 @@ impl Progress {
                 let place = place_of(found, left, line.len() as u32);
                 Err(ScriptFault::BadLine(number, LineCause::Syntax(place)))
             }
-            Ok(said) => match verdict(&self.reader, said) {
+            Ok(said) => match verdict(said) {
                 Ok(event) => Ok(event),
                 Err(cause) => Err(ScriptFault::BadLine(number, cause)),
             },

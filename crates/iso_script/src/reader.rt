@@ -2,7 +2,6 @@
 
 ghost use Rattle.std.specs.Prelude.{◌≡◌, OnOk};
 ghost use Rattle.iso_script.specs.Advance as step;
-ghost use Rattle.iso_script.specs.Built.{is_commit};
 ghost use Rattle.iso_script.specs.Reading as spec;
 ghost use Rattle.iso_script.specs.Steps.{verdict as judged};
 ghost use Rattle.iso_script.specs.declared.event.Event.TheVariants as event;
@@ -12,7 +11,6 @@ use crate::fault::{LineCause, cause_of};
 use crate::script::{Line, Script, What};
 use crate::unbuilt::is_built;
 use iso_grammar::Checked;
-use iso_sql::Statement;
 use iso_types::{Config, Conn, Head, Items, Memory};
 use std::alloc::Global;
 
@@ -25,19 +23,12 @@ pub enum Place {
     After,
 }
 
-/// A script so far, with the settings that were declared; it is unfinished where its last body line is no COMMIT.
+/// A script so far, with the settings that were declared.
 #[derive(Drop)]
 pub struct Reader {
     pub place: Place,
     pub set: Settings,
-    pub unfinished: bool,
     pub script: Script,
-}
-
-fn is_commit_line(what: &What) -> bool
-    ensures { result ≡ is_commit what.now }
-{
-    matches!(what, What::Statement(Statement::Commit))
 }
 
 fn with_setting(config: Config, setting: Setting) -> Config
@@ -83,13 +74,13 @@ fn with_set(set: Settings, setting: Setting) -> Settings
 }
 
 /// What a line with these faults says.
-pub fn verdict(reader: &Reader, found: Checked<Event>) -> Result<Event, LineCause>
-    ensures { result ≡ judged reader.now found }
+pub fn verdict(found: Checked<Event>) -> Result<Event, LineCause>
+    ensures { result ≡ judged found }
 {
     if let Some(fault) = found.fault {
         return Err(cause_of(fault));
     }
-    if is_built(reader, &found.value) {
+    if is_built(&found.value) {
         return Ok(found.value);
     }
     Err(LineCause::Unbuilt)
@@ -109,7 +100,6 @@ impl Reader {
                 logmax: false,
                 window: false,
             },
-            unfinished: false,
             script: Script {
                 head: Head {
                     config: Config {
@@ -132,7 +122,6 @@ impl Reader {
     fn ask(&mut self, number: u32, conn: Option<Conn>, free: bool, what: What) -> Result<(), Memory>
         ensures { OnOk result (self.new ≡ step.advance self.old number (event.Asked conn free what)) }
     {
-        self.unfinished = !is_commit_line(&what);
         self.script.lines.push(Line {
             number,
             conn,

@@ -14,8 +14,12 @@ const LEAST: &[u8] = b"DB2ISO 1\nBEGIN\nEND\n";
 const LOOSE: &[u8] =
     b"-- a script\r\n\r\ndb2iso\t01\r\nconfig cur_commit Disabled\r\n \t \r\nTable t(id Integer not null,b bigint, v varchar(32))\r\nROW T (1, -9223372036854775808, 'it''s 32 bytes, with doubled ''''x''')\r\nrow t(-7,NULL,null)\r\n\tConnect a Ur\r\nTABLE LATER (N INTEGER)\r\nTABLE ABCDEFGHIJKLMNOPQRSTUVWXYZ123456 (A INTEGER, B INTEGER, C INTEGER, D INTEGER, E INTEGER, F INTEGER, G INTEGER, H INTEGER)\r\nbegin\r\n-- a body line\r\na : Insert into t values (7, 0, 'x''y') ;\r\nA:SELECT ID FROM T WHERE NOT B=7 AND v IS NULL with ur\r\nA:select count ( * ) from later where n between -1 and 1 with ur;\r\nA: COMMIT WORK\r\nend\r\n\r\n--";
 
+// Two connections, a line behind `&`, and EXPIRE.
+const SEVERAL: &[u8] =
+    b"DB2ISO 1\nCONFIG LOCKLIST 4\nCONNECT A RS\nCONNECT B\nTABLE T (N INTEGER)\nBEGIN\n& A: UPDATE T SET N = 1\nB: ROLLBACK\nEXPIRE A\nEND\n";
+
 // Head lines, and what is wrong with the last of them. The first line and its table are written before them.
-const HEADS: [(&[u8], LineCause); 44] = [
+const HEADS: [(&[u8], LineCause); 37] = [
     (b"TABLE", LineCause::Syntax(6)),
     (b"TABLE T (ID INTEGER", LineCause::Syntax(20)),
     (b"TABLE T (ID INTEGER NOT)", LineCause::Syntax(24)),
@@ -28,18 +32,12 @@ const HEADS: [(&[u8], LineCause); 44] = [
     (b"EXPIRE A", LineCause::Syntax(1)),
     (b"CONFIG LOCKLIST 3", LineCause::Limit(17)),
     (b"CONFIG LOCKLIST 4097", LineCause::Limit(17)),
-    (b"CONFIG LOCKLIST 4", LineCause::Unbuilt),
-    (b"CONFIG LOCKLIST 4096", LineCause::Unbuilt),
     (b"CONFIG MAXLOCKS 0", LineCause::Limit(17)),
     (b"CONFIG MAXLOCKS 101", LineCause::Limit(17)),
-    (b"CONFIG MAXLOCKS 1", LineCause::Unbuilt),
-    (b"CONFIG MAXLOCKS 100", LineCause::Unbuilt),
     (b"CONFIG LOGMAX 1", LineCause::Limit(15)),
     (b"CONFIG LOGMAX 1000001", LineCause::Limit(15)),
-    (b"CONFIG LOGMAX 2", LineCause::Unbuilt),
     (b"CONFIG WINDOW -1", LineCause::Limit(15)),
     (b"CONFIG WINDOW 99999999999999999999", LineCause::Limit(15)),
-    (b"CONFIG WINDOW 1000000", LineCause::Unbuilt),
     (b"TABLE T (N INTEGER)", LineCause::Duplicate(7)),
     (b"TABLE X (N INTEGER, n BIGINT)", LineCause::Duplicate(21)),
     (b"TABLE X (N VARCHAR(33))", LineCause::Limit(20)),
@@ -52,7 +50,6 @@ const HEADS: [(&[u8], LineCause); 44] = [
         b"TABLE X (A INTEGER, B INTEGER, C INTEGER, D INTEGER, E INTEGER, F INTEGER, G INTEGER, H INTEGER, I INTEGER)",
         LineCause::Limit(1),
     ),
-    (b"CONNECT A RS", LineCause::Unbuilt),
     (b"CONNECT A RR", LineCause::Unbuilt),
     (b"ROW NOSUCH (1)", LineCause::Unknown(5)),
     (
@@ -75,7 +72,7 @@ const HEADS: [(&[u8], LineCause); 44] = [
 ];
 
 // Whole scripts, with their first bad line and its cause.
-const REFUSED: [(&[u8], u32, LineCause); 28] = [
+const REFUSED: [(&[u8], u32, LineCause); 25] = [
     (
         b"DB2ISO 1\nCONNECT A\nBEGIN\nA: SELECT * FROM T\nEND\n",
         4,
@@ -102,17 +99,12 @@ const REFUSED: [(&[u8], u32, LineCause); 28] = [
         LineCause::Unknown(1),
     ),
     (
-        b"DB2ISO 1\nTABLE T (N INTEGER)\nCONNECT A\nBEGIN\nA: INSERT INTO T VALUES (1)\nEND\n",
-        6,
-        LineCause::Unbuilt,
-    ),
-    (
-        b"DB2ISO 1\nTABLE T (N INTEGER)\nCONNECT A\nBEGIN\nA: SELECT N FROM T\n",
+        b"DB2ISO 1\nTABLE T (N INTEGER)\nCONNECT A\nBEGIN\nA: SELECT N FROM T WITH RR\n",
         5,
         LineCause::Unbuilt,
     ),
     (
-        b"DB2ISO 1\nTABLE T (N INTEGER)\nCONNECT A\nBEGIN\nA: DELETE FROM T\n",
+        b"DB2ISO 1\nTABLE T (N INTEGER)\nCONNECT A\nBEGIN\nA: SET ISOLATION RR\n",
         5,
         LineCause::Unbuilt,
     ),
@@ -141,7 +133,7 @@ const REFUSED: [(&[u8], u32, LineCause); 28] = [
         3,
         LineCause::Duplicate(9),
     ),
-    (b"DB2ISO 1\nCONNECT A\nCONNECT B\n", 3, LineCause::Unbuilt),
+    (b"DB2ISO 1\nCONNECT A\nCONNECT B RR\n", 3, LineCause::Unbuilt),
     (
         b"DB2ISO 1\nTABLE T (N INTEGER NOT NULL)\nROW T (5)\nROW T (5)\n UNIQUE INDEX I ON T (N)\n",
         5,
@@ -163,17 +155,7 @@ const REFUSED: [(&[u8], u32, LineCause); 28] = [
         LineCause::Unknown(8),
     ),
     (
-        b"DB2ISO 1\nCONNECT A\nBEGIN\nEXPIRE A\n",
-        4,
-        LineCause::Unbuilt,
-    ),
-    (
         b"DB2ISO 1\nCONNECT A\nBEGIN\nSNAPSHOT\n",
-        4,
-        LineCause::Unbuilt,
-    ),
-    (
-        b"DB2ISO 1\nCONNECT A\nBEGIN\n& A: COMMIT\n",
         4,
         LineCause::Unbuilt,
     ),
@@ -481,7 +463,11 @@ fn index_5_of_a_table(alloc: Global) -> Result<bool, ScriptFault> {
 }
 
 // Settings at their bounds and past them, with what they are refused for.
-const SETTINGS: [(&[u8], Option<LineCause>); 8] = [
+const SETTINGS: [(&[u8], Option<LineCause>); 12] = [
+    (b"CONFIG LOCKLIST 4", None),
+    (b"CONFIG LOCKLIST 4096", None),
+    (b"CONFIG MAXLOCKS 1", None),
+    (b"CONFIG MAXLOCKS 100", None),
     (b"CONFIG WINDOW 0", Some(LineCause::Limit(15))),
     (b"CONFIG WINDOW 1", None),
     (b"CONFIG WINDOW 1000000", None),
@@ -555,6 +541,7 @@ fn a_unique_index_behind_65535_rows_is_taken(rt: HostRuntime) {
 fn scripts_are_read(rt: HostRuntime) {
     assert!(rt; reads(rt.alloc(), LEAST, &[]));
     assert!(rt; reads(rt.alloc(), LOOSE, &[14, 15, 16, 17]));
+    assert!(rt; reads(rt.alloc(), SEVERAL, &[7, 8, 9]));
 }
 
 #[test]

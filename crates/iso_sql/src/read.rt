@@ -23,18 +23,19 @@ use std::alloc::Global;
 fn is_built_level(level: Option<Isolation>) -> bool
     ensures { result ≡ stage.is_built_level level }
 {
-    matches!(level, Some(Isolation::Ur))
+    !matches!(level, Some(Isolation::Rr))
 }
 
-/// Whether this stage of the project runs the statement: SELECT .. WITH UR, INSERT and COMMIT. No memory.
+/// Whether this stage of the project runs the statement: one that names no level RR. No memory.
 pub fn is_built(statement: &Statement) -> bool
     ensures { result ≡ stage.is_built statement.now }
 {
     match statement {
         Statement::Select { level, .. } => is_built_level(*level),
-        Statement::Insert { .. } => true,
-        Statement::Commit => true,
-        _ => false,
+        Statement::Update { level, .. } => is_built_level(*level),
+        Statement::Delete { level, .. } => is_built_level(*level),
+        Statement::SetIsolation(level) => is_built_level(*level),
+        _ => true,
     }
 }
 

@@ -50,7 +50,7 @@ fn head(alloc: Global) -> Result<Head, Memory> {
 }
 
 // Texts that are read, or else their fault.
-const FORMS: [(&[u8], Option<SqlFault>); 22] = [
+const FORMS: [(&[u8], Option<SqlFault>); 23] = [
     (b"COMMIT", None),
     (b"\tcommit  Work ", None),
     (b"INSERT INTO T VALUES (1, NULL, 'A''B', NULL)", None),
@@ -68,34 +68,35 @@ const FORMS: [(&[u8], Option<SqlFault>); 22] = [
         None,
     ),
     (b"SELECT ID FROM T WHERE ID=1AND V<=2 WITH UR", None),
-    (b"SELECT ID FROM T", Some(SqlFault::Unbuilt)),
-    (b"SELECT ID FROM T WITH CS", Some(SqlFault::Unbuilt)),
+    (b"SELECT ID FROM T", None),
+    (b"SELECT ID FROM T WITH CS", None),
     (
         b"UPDATE T SET V = ID + 1, L = S, ID = NULL WHERE V NOT BETWEEN -1 AND 1",
-        Some(SqlFault::Unbuilt),
+        None,
     ),
     (
         b"DELETE FROM T WHERE V IS NULL WITH RR",
         Some(SqlFault::Unbuilt),
     ),
-    (b"ROLLBACK", Some(SqlFault::Unbuilt)),
-    (b"ROLLBACK WORK TO SAVEPOINT A", Some(SqlFault::Unbuilt)),
+    (b"ROLLBACK", None),
+    (b"ROLLBACK WORK TO SAVEPOINT A", None),
     (
         b"SAVEPOINT A ON ROLLBACK RETAIN CURSORS",
-        Some(SqlFault::Unbuilt),
+        None,
     ),
-    (b"LOCK TABLE T IN SHARE MODE", Some(SqlFault::Unbuilt)),
-    (b"LOCK TABLE T IN EXCLUSIVE MODE", Some(SqlFault::Unbuilt)),
-    (b"SET ISOLATION RESET", Some(SqlFault::Unbuilt)),
-    (b"SET CURRENT ISOLATION = RS", Some(SqlFault::Unbuilt)),
-    (b"SET CURRENT LOCK TIMEOUT WAIT", Some(SqlFault::Unbuilt)),
+    (b"LOCK TABLE T IN SHARE MODE", None),
+    (b"LOCK TABLE T IN EXCLUSIVE MODE", None),
+    (b"SET ISOLATION RESET", None),
+    (b"SET CURRENT ISOLATION = RS", None),
+    (b"SET ISOLATION RR", Some(SqlFault::Unbuilt)),
+    (b"SET CURRENT LOCK TIMEOUT WAIT", None),
     (
         b"SET CURRENT LOCK TIMEOUT=NOT WAIT",
-        Some(SqlFault::Unbuilt),
+        None,
     ),
     (
         b"SAVEPOINT ABCDEFGHIJKLMNOPQRSTUVWXYZ123456",
-        Some(SqlFault::Unbuilt),
+        None,
     ),
 ];
 

@@ -1,0 +1,2 @@
+//! The agent of a connection: it makes the own entries of its statements, one a call.
+#![tactic(auto)]

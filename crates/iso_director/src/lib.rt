@@ -1,0 +1,2 @@
+//! The dispatcher of a run: it takes the lines, ends deadlocks, closes the connections, one entry a call.
+#![tactic(auto)]

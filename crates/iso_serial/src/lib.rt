@@ -1,0 +1,2 @@
+//! The run of a script on one thread: the dispatcher and the agents take turns.
+#![tactic(auto)]
