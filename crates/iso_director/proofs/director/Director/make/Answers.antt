@@ -1,0 +1,17 @@
+use Rattle.std.proofs.Common.{◌≡◌, ◌∙◌, ap, drop, sym, subst, true, false}
+use Rattle.iso_director.proofs.Made.{made-taken}
+use Rattle.iso_director.specs.Turns.{HasMade}
+use Rattle.iso_history.specs.After.{world}
+use Rattle.iso_state.specs.Stands.{world_of}
+use Rattle.iso_types.specs.declared.head.Head.{Head}
+use Rattle.iso_director.proofs.director.Director.make.Goals as goal
+
+pub returns-clause-taken : goal.returns-clause-taken
+returns-clause-taken c =
+    let p = c.args.parts.now in
+    let s = c.args.script.now in
+    let k = c.args.self.now.taken in
+    let m = c.lead.new.self.taken in
+    made-taken s p.history.items c.lead.new.parts.history.items k m c.lead.result c.requires.taken
+    (subst (λ (h : Head). HasMade s.head (world h p.history.items) (drop k s.lines) (drop m s.lines) p.history.items c.lead.new.parts.history.items c.lead.result)
+    c.requires.head c.lead.ensures.made)
