@@ -1,5 +1,5 @@
 -- The parts after the dispatcher ended a connection's wait, by a line EXPIRE or for a deadlock.
-use Rattle.std.proofs.Common.{◌≡◌, ◌≤◌, ◌<◌, ◌-◌, inr, ℕ, Bool, true, false, List, length, refl, ap, sym, ◌∙◌, arith, Some, Option}
+use Rattle.std.proofs.Common.{◌≡◌, ◌≤◌, ◌<◌, ◌-◌, inr, ℕ, Bool, true, false, List, length, refl, ap, sym, arith, Some, Option}
 use Rattle.std.specs.Option.{option_map_or}
 use Rattle.std.specs.Prelude.{is_none, is_some, slice_set, unwrap_or}
 use Rattle.std.proofs.Math.ListN.{length-set}

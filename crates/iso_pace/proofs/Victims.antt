@@ -1,5 +1,5 @@
 -- The members of the chosen cycle, and the youngest of them, its victim, found member by member.
-use Rattle.std.proofs.Common.{◌≡◌, ◌≤◌, ◌<◌, ◌+◌, ◌++◌, ℕ, zero, suc, Bool, true, false, ◌&&◌, List, [], ◌∷◌, length, refl, ap, sym, subst, ◌∙◌, arith, Some, None, Option, MatchOption, find, take}
+use Rattle.std.proofs.Common.{◌≡◌, ◌<◌, ◌+◌, ◌++◌, ℕ, zero, suc, Bool, true, false, ◌&&◌, List, [], ◌∷◌, length, refl, ap, sym, subst, ◌∙◌, arith, Some, None, Option, MatchOption, find, take}
 use Rattle.std.specs.List.{list_all, slice_get}
 use Rattle.std.specs.Option.{option_map, option_or}
 use Rattle.std.specs.Prelude.{if◌then◌else◌, nat_le, nat_lt, unwrap_or}
@@ -9,7 +9,7 @@ use Rattle.std.proofs.lemmas.List.{take_more}
 use Rattle.std.proofs.lemmas.List.Folds.{find-append}
 use Rattle.std.proofs.lemmas.Option.{get_or_from_slice_get, slice_get_within}
 use Rattle.iso_history.proofs.limits.Courses.{find-passes}
-use Rattle.iso_history.proofs.limits.Victims.{HasVictim, has_victim}
+use Rattle.iso_history.proofs.limits.Victims.{has_victim}
 use Rattle.iso_history.specs.Phases.{phase, victim}
 use Rattle.iso_history.specs.Quiet.{cycle_in, edges_in}
 use Rattle.iso_history.specs.Units.{unit_of}
@@ -43,12 +43,12 @@ chosen-in head w cycle e =
     chosen (edge_in head w) (edges_in head w) (conns head) (targets-in head w) in
     subst (λ (o : Option (List Conn)). MatchOption o (HasNoCycle (edge_in head w)) (IsChosen (edge_in head w))) e h
 
+some-is : (x y : Conn) → Some x ≡ Some y → x ≡ y
+some-is x y e = cc
+
 among-get : (xs : List Conn) (k : ℕ) (x : Conn) → slice_get xs k ≡ Some x → is_among x xs ≡ true
 among-get [] k x e = absurd (cc)
 among-get (y ∷ ys) zero x e = let P : Conn → Type 0 = λ z. is_among z (y ∷ ys) ≡ true in subst P (some-is y x e) (among-first y ys)
-  where
-    some-is : (a b : Conn) → Some a ≡ Some b → a ≡ b
-    some-is a b e = cc
 among-get (y ∷ ys) (suc k) x e = among-rest x y ys (among-get ys k x e)
 
 pub member-there : (head : Head) (w : World) (cycle : List Conn) (k : ℕ) (x : Conn) → cycle_in head w ≡ Some cycle → slice_get cycle k ≡ Some x
@@ -72,9 +72,6 @@ pub victim-there : (head : Head) (w : World) (cycle : List Conn) (c : Conn) → 
 victim-there head w cycle c e is =
     let h = has_victim head w cycle e in
     subst (λ (d : Conn). d.0 < length head.conns) (some-is h.conn c (sym h.is_victim ∙ is)) (ltb-true h.conn.0 (length head.conns) h.is_one)
-  where
-    some-is : (a b : Conn) → Some a ≡ Some b → a ≡ b
-    some-is a b e = cc
 
 pub victim-waits : (p : Parts) (cycle : List Conn) (c : Conn) → StandsFor p → cycle_in p.head (world_of p) ≡ Some cycle
     → victim (world_of p) cycle ≡ Some c → phase (world_of p) c ≡ Phase.Waiting
@@ -83,9 +80,6 @@ victim-waits p cycle c s e is =
     let h = has_victim p.head w cycle e in
     subst (λ (d : Conn). phase (world_of p) d ≡ Phase.Waiting) (some-is h.conn c (sym h.is_victim ∙ is))
     (((within-of s.stands).course.each h.conn).waits h.waits).0
-  where
-    some-is : (a b : Conn) → Some a ≡ Some b → a ≡ b
-    some-is a b e = cc
 
 -- ---- the number of a unit, as the units tell it
 
@@ -151,9 +145,6 @@ module _ (f : Conn → ℕ) where
   narrower p q [] b h k e = absurd (cc)
   narrower p q (c ∷ cs) b h k e = go (q c) refl (narrower p q cs b h k)
     where
-      some-is : (x y : Conn) → Some x ≡ Some y → x ≡ y
-      some-is x y e = cc
-
       go : (t : Bool) → q c ≡ t → (find q cs ≡ Some b → find p cs ≡ Some b) → find p (c ∷ cs) ≡ Some b
       go true z ih =
           let same : c ≡ b = some-is c b (sym (ap (λ (t : Bool). if t then Some c else find q cs) z) ∙ e) in

@@ -1,5 +1,4 @@
-use Rattle.std.proofs.Common.{◌≡◌, ◌<◌, length, take, Some}
-use Rattle.iso_history.specs.Phases.{victim}
+use Rattle.std.proofs.Common.{take}
 use Rattle.iso_state.specs.Stands.{world_of}
 use Rattle.iso_pace.specs.Told.{IsYoungestOf}
 use Rattle.iso_pace.proofs.deadlocks.youngest.Given as goal
