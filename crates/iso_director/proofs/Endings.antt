@@ -1,13 +1,11 @@
 -- What closing comes to is the step that ends a run.
-use Rattle.std.proofs.Common.{◌≡◌, Bool, true, false, List, [], ◌∷◌, ◌++◌, find, refl, sym, ap, subst, ◌∙◌, Option, Some, None, option_map, if◌then◌else◌}
+use Rattle.std.proofs.Common.{◌≡◌, Bool, true, false, List, [], ◌∷◌, ◌++◌, find, refl, ap, ◌∙◌, Option, Some, None, option_map, if◌then◌else◌}
 use Rattle.std.specs.List.{list_all}
 use Rattle.std.specs.Option.{option_map_or, option_or}
 use Rattle.std.proofs.lemmas.Bool.{and_parts}
-use Rattle.std.proofs.lemmas.List.{append-nil}
 use Rattle.iso_conduct.specs.Schedule.{ending_step}
 use Rattle.iso_director.specs.Turns.{HasEnded}
-use Rattle.iso_director.specs.declared.director.Led.TheVariants.{Ran, Rests}
-use Rattle.iso_history.specs.Makers.{by_dispatcher}
+use Rattle.iso_director.specs.declared.director.Led.TheVariants.{Ran}
 use Rattle.iso_history.specs.Phases.{is_phase, phase}
 use Rattle.iso_history.specs.Quiet.{all_ended, is_quiet, least_idle}
 use Rattle.iso_history.specs.World.{World}
@@ -50,11 +48,5 @@ ending-is head w = go (all_ended head w) refl (is_quiet head w) (least_idle head
     go false e false o least = refl
 
 module _ (head : Head) (w : World) (old new : List Entry) where
-  pub ended-one : (c : Conn) → closed head w ≡ One c → new ≡ old ++ closing (closed head w) → HasEnded head w old new Ran
-  ended-one c e is = (Close c, ending-is head w ∙ ap act_of e, refl, is ∙ ap (λ (x : Closing). old ++ closing x) e)
-
   pub ended-all : closed head w ≡ Finished → new ≡ old ++ closing (closed head w) → HasEnded head w old new Ran
   ended-all e is = (Finish, ending-is head w ∙ ap act_of e, refl, is ∙ ap (λ (x : Closing). old ++ closing x) e)
-
-  pub ended-none : closed head w ≡ NotQuiet → new ≡ old ++ closing (closed head w) → HasEnded head w old new Rests
-  ended-none e is = (ending-is head w ∙ ap act_of e, is ∙ ap (λ (x : Closing). old ++ closing x) e ∙ append-nil old)

@@ -1,8 +1,7 @@
 -- A line is taken, or the dispatcher may stop in its place.
-use Rattle.std.proofs.Common.{◌≡◌, Bool, true, false, not, List, [], ◌∷◌, ◌++◌, length, refl, sym, ap, subst, ◌∙◌, Option, Some, None, is_some, Result, Ok, Err, OnErr}
+use Rattle.std.proofs.Common.{◌≡◌, Bool, true, false, not, List, [], ◌∷◌, ◌++◌, length, refl, subst, ◌∙◌, Option, Some, None, Result, Ok, Err}
 use Rattle.std.specs.Option.{option_map_or}
 use Rattle.std.proofs.lemmas.Bool.{both_ways}
-use Rattle.std.proofs.lemmas.List.{append-nil}
 use Rattle.iso_conduct.proofs.Takes.{taken-stands}
 use Rattle.iso_conduct.specs.Pacing.{IsLine, MayHalt, line_step}
 use Rattle.iso_director.proofs.Lines.{plain-taking}
@@ -55,16 +54,6 @@ module _ (head : Head) (old new : List Entry) (step : Option Act) where
       go None t = absurd (both_ways (is_taken paced) t.answer done)
       go (Some a) t =
           (a, refl, whole _ (last-stands head old (by_dispatcher a) (subst (Ground head) t.ok ground)).1, t.ok)
-
-  -- it has none to make
-  pub taken-nothing : (r : Result Paced StepFault) (paced : Paced) → HasTried head (world head old) step old new r → r ≡ Ok paced → is_taken paced ≡ false
-      → HasLineTaken head (world head old) step old new taking.Nothing
-  taken-nothing r paced tried is done =
-      go step (subst (λ (x : Result Paced StepFault). HasTried head (world head old) step old new x) is tried)
-    where
-      go : (s : Option Act) → HasTried head (world head old) s old new (Ok paced) → HasLineTaken head (world head old) s old new taking.Nothing
-      go None t = (refl, t.ok ∙ append-nil old)
-      go (Some a) t = absurd (both_ways (is_taken paced) done t.answer)
 
   -- the dispatcher stops in its place
   pub halts : (r : Result Paced StepFault) (fault : StepFault) → HasTried head (world head old) step old new r → r ≡ Err fault

@@ -1,20 +1,18 @@
 -- What each part of a turn leaves, as what the turn makes.
-use Rattle.std.proofs.Common.{◌≡◌, ℕ, ◌+◌, ◌<◌, ◌≤◌, Bool, true, false, List, [], ◌∷◌, ◌++◌, drop, length, refl, sym, ap, subst, ◌∙◌, Option, Some, None, is_some}
+use Rattle.std.proofs.Common.{◌≡◌, ℕ, ◌+◌, ◌<◌, true, false, List, ◌∷◌, ◌++◌, drop, length, refl, sym, ap, subst, ◌∙◌, Option, Some, None, is_some}
 use Rattle.std.proofs.lemmas.Bool.{both_ways}
-use Rattle.std.proofs.lemmas.List.{append-nil, drop_all, drop_more}
+use Rattle.std.proofs.lemmas.List.{append-nil, drop_more}
 use Rattle.std.proofs.Math.ListN.{get_or}
 use Rattle.std.specs.Option.{option_map_or}
-use Rattle.iso_conduct.specs.Pacing.{is_over, line_step, taking}
-use Rattle.iso_director.proofs.Firsts.{rest-end, rest-line, stopped-bare, stopped-over, turn-end, turn-halt, turn-line, turn-victim}
-use Rattle.iso_director.specs.Turns.{HasEnded, HasLineTaken, HasMade, IsTurn}
-use Rattle.iso_director.specs.declared.director.Led.{Led}
-use Rattle.iso_director.specs.declared.director.Led.TheVariants.{Ended, Ran, Rests}
+use Rattle.iso_conduct.specs.Pacing.{line_step}
+use Rattle.iso_director.proofs.Firsts.{turn-halt, turn-line, turn-victim}
+use Rattle.iso_director.specs.Turns.{HasLineTaken, HasMade}
+use Rattle.iso_director.specs.declared.director.Led.TheVariants.{Ran}
 use Rattle.iso_director.specs.declared.taking.Taken.TheVariants as taking_of
 use Rattle.iso_history.proofs.limits.Victims.{has_victim}
 use Rattle.iso_history.specs.Phases.{victim}
 use Rattle.iso_history.specs.Quiet.{cycle_in}
 use Rattle.iso_history.specs.World.{World}
-use Rattle.iso_history.specs.declared.entry.Act.{Act}
 use Rattle.iso_history.specs.declared.entry.Act.TheVariants.{Stopped, Victim}
 use Rattle.iso_history.specs.declared.entry.Entry.{Entry}
 use Rattle.iso_script.specs.declared.script.Line.{Line}
@@ -59,23 +57,6 @@ module _ (head : Head) (w : World) (ls : List Line) (es fs : List Entry) (open_ 
       go None e s i = absurd (both_ways false refl s)
       go (Some members) e s i = (Victim members, i, turn-victim head w ls open_ members e)
 
-  -- ---- the end of a run
-
-  ended-made : cycle_in head w ≡ None → taking head w ls ≡ None → is_over w ls ≡ true → (r : Led) → HasEnded head w es fs r → HasMade head w ls ls es fs r
-  ended-made none bare over Ran h = (h.0, h.3, turn-end head w ls open_ none bare over h.0 h.1 h.2)
-  ended-made none bare over Rests h = (rest-end head w ls open_ none bare over h.0, refl, h.1)
-  ended-made none bare over Ended h = absurd h
-
-  -- where somebody stopped
-  pub stopped-made : cycle_in head w ≡ None → w.pace.stopped ≡ true → (r : Led) → HasEnded head w es fs r → HasMade head w ls ls es fs r
-  stopped-made none stopped r h = ended-made none (stopped-bare head w ls stopped) (stopped-over w ls stopped) r h
-
--- where no line is left
-pub bare-made : (head : Head) (w : World) (lines : List Line) (k : ℕ) (es fs : List Entry) → w.pace.finished ≡ false → cycle_in head w ≡ None
-    → length lines ≤ k → (r : Led) → HasEnded head w es fs r → HasMade head w (drop k lines) (drop k lines) es fs r
-bare-made head w lines k es fs open_ none past r h =
-    subst (λ (ls : List Line). HasMade head w ls ls es fs r) (sym (drop_all k lines past)) (ended-made head w [] es fs open_ none refl refl r h)
-
 -- ---- the next line
 
 module _ (head : Head) (w : World) (lines : List Line) (k : ℕ) (l : Line) (es fs : List Entry) (open_ : w.pace.finished ≡ false)
@@ -93,8 +74,3 @@ module _ (head : Head) (w : World) (lines : List Line) (k : ℕ) (l : Line) (es 
   halt-made h =
       subst (λ (ls : List Line). HasMade head w ls ls es fs Ran) (sym left)
       (Stopped h.0, h.2, turn-halt head w l (drop (k + 1) lines) open_ plain going none h.0 h.1)
-
-  pub nothing-made : HasLineTaken head w (line_step head w l) es fs taking_of.Nothing → HasMade head w (drop k lines) (drop k lines) es fs Rests
-  nothing-made h =
-      subst (λ (ls : List Line). HasMade head w ls ls es fs Rests) (sym left)
-      (rest-line head w l (drop (k + 1) lines) open_ plain going none h.0, refl, h.1)

@@ -5,4 +5,3 @@ pub mod Endings
 pub mod Tries
 pub mod Halts
 pub mod Leads
-pub mod Made

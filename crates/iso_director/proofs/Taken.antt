@@ -3,6 +3,9 @@ use Rattle.std.proofs.Common.{◌≡◌, ℕ, List, [], ◌∷◌, ◌++◌, dro
 use Rattle.iso_conduct.proofs.Snoc.{Paced-snoc, lines_left-snoc}
 use Rattle.iso_conduct.specs.Pacing.{MayPace, Paced, PacedFrom, lines_after_act, lines_from, lines_left}
 use Rattle.iso_director.specs.Director.{HasTaken}
+use Rattle.iso_director.specs.Turns.{HasMade}
+use Rattle.iso_director.specs.declared.director.Led.{Led}
+use Rattle.iso_director.specs.declared.director.Led.TheVariants.{Ended, Ran, Rests}
 use Rattle.iso_history.specs.After.{world}
 use Rattle.iso_history.specs.Makers.{by_agent, by_dispatcher}
 use Rattle.iso_history.specs.declared.entry.Act.{Act}
@@ -34,3 +37,10 @@ taken-agent script es fs k c a t is = record {
   paced = rw is (Paced-snoc script.head script.lines es (by_agent c a) t.paced tt);
   left = ap (lines_left script.lines) is ∙ (lines_left-snoc script.lines es (by_agent c a) ∙ t.left);
 }
+
+-- a turn
+pub made-taken : (script : Script) (es fs : List Entry) (k m : ℕ) (r : Led) → HasTaken script es k
+    → HasMade script.head (world script.head es) (drop k script.lines) (drop m script.lines) es fs r → HasTaken script fs m
+made-taken script es fs k m Ran t made = taken-snoc script es fs k m made.0 t made.1 made.2.paces made.2.left
+made-taken script es fs k m Rests t made = record { paced = rw made.2 t.paced; left = rw made.2 (t.left ∙ sym made.1) }
+made-taken script es fs k m Ended t made = absurd made

@@ -1,4 +1,4 @@
-use Rattle.std.proofs.Common.{◌≡◌, ◌∙◌, ap, sym, subst, true, false}
+use Rattle.std.proofs.Common.{◌≡◌, ◌∙◌, sym, subst, true}
 use Rattle.iso_conduct.specs.Pacing.{MayHalt, line_step}
 use Rattle.iso_history.specs.After.{world}
 use Rattle.iso_history.specs.Legal.{Ground}

@@ -1,10 +1,9 @@
-use Rattle.std.proofs.Common.{◌≡◌, ◌∙◌, List, None, drop, sym, subst, false}
+use Rattle.std.proofs.Common.{◌≡◌, ◌∙◌, None, drop, sym, subst, false}
 use Rattle.iso_director.proofs.Leads.{moved, none-cycle, none-same, victim-made}
 use Rattle.iso_director.specs.Turns.{HasMade}
 use Rattle.iso_director.specs.declared.director.Led.TheVariants.{Ran}
 use Rattle.iso_history.specs.After.{world}
 use Rattle.iso_history.specs.Quiet.{cycle_in}
-use Rattle.iso_history.specs.declared.entry.Entry.{Entry}
 use Rattle.iso_state.specs.Stands.{world_of}
 use Rattle.iso_types.specs.declared.head.Head.{Head}
 use Rattle.iso_director.proofs.director.Director.lead.Goals as goal

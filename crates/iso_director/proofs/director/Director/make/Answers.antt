@@ -1,8 +1,7 @@
-use Rattle.std.proofs.Common.{◌≡◌, ◌∙◌, ap, drop, sym, subst, true, false}
-use Rattle.iso_director.proofs.Made.{made-taken}
+use Rattle.std.proofs.Common.{drop, subst}
+use Rattle.iso_director.proofs.Taken.{made-taken}
 use Rattle.iso_director.specs.Turns.{HasMade}
 use Rattle.iso_history.specs.After.{world}
-use Rattle.iso_state.specs.Stands.{world_of}
 use Rattle.iso_types.specs.declared.head.Head.{Head}
 use Rattle.iso_director.proofs.director.Director.make.Goals as goal
 

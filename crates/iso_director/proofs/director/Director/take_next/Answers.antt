@@ -1,9 +1,9 @@
-use Rattle.std.proofs.Common.{◌≡◌, ◌∙◌, ap, sym, subst, drop, List, ◌+◌}
+use Rattle.std.proofs.Common.{◌≡◌, ◌∙◌, ap, subst, drop, List, ◌+◌}
 use Rattle.std.proofs.Math.ListN.{get_or}
 use Rattle.iso_conduct.specs.Pacing.{line_step}
-use Rattle.iso_director.proofs.Leads.{halt-made, line-made, nothing-made}
+use Rattle.iso_director.proofs.Leads.{halt-made, line-made}
 use Rattle.iso_director.specs.Turns.{HasLineTaken, HasMade}
-use Rattle.iso_director.specs.declared.director.Led.TheVariants.{Ran, Rests}
+use Rattle.iso_director.specs.declared.director.Led.TheVariants.{Ran}
 use Rattle.iso_director.specs.declared.taking.Taken.{Taken}
 use Rattle.iso_script.specs.declared.script.Line.{Line}
 use Rattle.iso_state.specs.Stands.{world_of}
@@ -35,16 +35,3 @@ returns-in-Stop-clause-made c =
     subst (λ (h : Head). HasMade h (world_of p) (drop k s.lines) (drop k s.lines) old new Ran) c.requires.head
     (halt-made p.head (world_of p) s.lines k l old new c.requires.open c.requires.plain c.requires.going c.requires.acyclic c.requires.left is
     (subst (λ (t : Taken). HasLineTaken p.head (world_of p) (line_step p.head (world_of p) l) old new t) c.in-Stop.is c.take.ensures.taken))
-
-pub returns-in-Nothing-clause-made : goal.returns-in-Nothing-clause-made
-returns-in-Nothing-clause-made c =
-    let p = c.args.parts.now in
-    let k = c.args.self.now.taken in
-    let s = c.args.script.now in
-    let l = c.index-as_slice-self.result in
-    let old = p.history.items in
-    let new = c.take.new.parts.history.items in
-    let is : l ≡ get_or s.lines k l = c.index-as_slice-self.is ∙ ap (λ (ls : List Line). get_or ls k l) c.as_slice.ensures in
-    subst (λ (h : Head). HasMade h (world_of p) (drop k s.lines) (drop k s.lines) old new Rests) c.requires.head
-    (nothing-made p.head (world_of p) s.lines k l old new c.requires.open c.requires.plain c.requires.going c.requires.acyclic c.requires.left is
-    (subst (λ (t : Taken). HasLineTaken p.head (world_of p) (line_step p.head (world_of p) l) old new t) c.in-Nothing.is c.take.ensures.taken))
