@@ -60,9 +60,9 @@ told-unrefused text history status old new (inl t) z = picked-unrefused history 
 told-unrefused text history status old new (inr (inl t)) z = let q : 2 ≡ 4 = sym z ∙ t.0 in omega arith
 told-unrefused text history status old new (inr (inr t)) z = let q : 2 ≡ 5 = sym z ∙ t.0 in omega arith
 
-run-unrefused : {status : ℕ} {history : List Entry} {old new : Option (List ℕ)} (script : Script) → IsTold script status history old new → status ≡ 2 → ⊥
-run-unrefused script (inl r) z = told-unrefused _ _ _ _ _ r.1 z
-run-unrefused script (inr r) z = let q : 2 ≡ 5 = sym z ∙ r.1 in omega arith
+run-unrefused : (script : Script) (status : ℕ) (history : List Entry) (old new : Option (List ℕ)) → IsTold script status history old new → status ≡ 2 → ⊥
+run-unrefused script status history old new (inl r) z = told-unrefused (transcript script history) history status old new r.1 z
+run-unrefused script status history old new (inr r) z = let q : 2 ≡ 5 = sym z ∙ r.1 in omega arith
 
 -- what was taken of all that a source told, and what came of it, answers for all of it
 module _ (a left old new : Option (List ℕ)) (all bytes : List ℕ) (status : ℕ) (history : List Entry)
@@ -98,7 +98,7 @@ module _ (a left old new : Option (List ℕ)) (all bytes : List ℕ) (status : �
   refused-of : IsOutcome bytes left status history old new → status ≡ 2 → (text : List ℕ) × Refuses all text × AppendsPart old new text
   refused-of (inl r) z = (r.1, refuses-all r.1 r.2, r.4)
   refused-of (inr (inl u)) z = absurd (unrefused status u.0 z)
-  refused-of (inr (inr r)) z = absurd (run-unrefused r.2 r.4 z)
+  refused-of (inr (inr r)) z = absurd (run-unrefused r.2 status history old new r.4 z)
 
   exact-of : IsOutcome bytes left status history old new → (text : List ℕ) → Refuses all text → (status ≡ 2) ⊎ ((status ≡ 3) ⊎ (status ≡ 5))
   exact-of (inl r) text f = inl r.0

@@ -6,7 +6,7 @@ ghost use Rattle.iso_io.specs.Moves.{AppendsPart, HasRisen};
 ghost use Rattle.iso_script.specs.Built.{IsBuilt};
 ghost use Rattle.iso_script.specs.Reading.{place_at, word_of};
 ghost use Rattle.iso_script.specs.Sound.{IsSound};
-ghost use Rattle.iso_engine.specs.Stopping as stops;
+ghost use Rattle.iso_engine.specs.Stopping as stopping;
 ghost use Rattle.iso_history.specs.Paces.{is_stop};
 ghost use Rattle.iso_conduct.specs.Conduct.{stops_for_memory as is_memory_stop};
 ghost use Rattle.iso_script.specs.declared.script.Script.{Script as Program};
@@ -71,15 +71,29 @@ fn without_run(status: u8, alloc: Global) -> Report
 /// The exit status of a run by the stops in its history: 5 where somebody stopped for want of memory, else 6 where somebody
 /// stopped at a limit, else 0. It looks at each entry.
 fn status_of(entries: &[Entry]) -> u8
-    ensures { result ≡ stops.status_of entries.now }
+    ensures { result ≡ stopping.status_of entries.now }
 {
-    if entries.iter().any(|entry| stops_for_memory(&entry.act)) {
+    if has_memory_stop(entries) {
         5
-    } else if entries.iter().any(|entry| stops(&entry.act)) {
+    } else if has_stop(entries) {
         6
     } else {
         0
     }
+}
+
+/// Whether somebody stopped, for whatever cause.
+fn has_stop(entries: &[Entry]) -> bool
+    ensures { result ≡ stopping.has_stop entries.now }
+{
+    entries.iter().any(|entry| stops(&entry.act))
+}
+
+/// Whether somebody stopped for want of memory.
+fn has_memory_stop(entries: &[Entry]) -> bool
+    ensures { result ≡ stopping.has_memory_stop entries.now }
+{
+    entries.iter().any(|entry| stops_for_memory(&entry.act))
 }
 
 /// Whether it is a stop, for whatever cause.

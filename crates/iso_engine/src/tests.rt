@@ -343,7 +343,10 @@ fn scripts_give_their_output(rt: HostRuntime) -> Result<(), Fail> {
         }
     }
     for (words, script, output, status) in WORKED {
-        assert!(rt; gives(&rt, words, script, output, status, 4096)?, "{script:?}");
+        assert!(rt;
+            gives(&rt, words, script, output, status, 4096)?,
+            "{script:?}"
+        );
     }
     let mut from = source(&rt, FIRST, 4096, &[])?;
     let mut to = sink(&rt, 4096, &[])?;
