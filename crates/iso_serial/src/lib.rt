@@ -1,6 +1,2 @@
 //! The run of a script on one thread: the dispatcher and the agents take turns.
 #![tactic(auto)]
-
-mod serial;
-
-pub use serial::run_serial;
