@@ -1,0 +1,6 @@
+pub mod RowNeeds
+pub mod RowTold
+pub mod RowsSeen
+pub mod RowsLocked
+pub mod RowsBegin
+pub mod RowsMade
