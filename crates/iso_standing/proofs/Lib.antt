@@ -4,3 +4,5 @@ pub mod RowsSeen
 pub mod RowsLocked
 pub mod RowsBegin
 pub mod RowsMade
+pub mod RowsHeard
+pub mod RowsAlong
