@@ -6,3 +6,5 @@ pub mod RowsBegin
 pub mod RowsMade
 pub mod RowsHeard
 pub mod RowsAlong
+pub mod RowsHold
+pub mod RowsAt

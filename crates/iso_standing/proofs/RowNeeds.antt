@@ -1,12 +1,11 @@
 -- What the changes of a statement need of the rows that its scan kept: each is seen as it was kept, and locked before its change.
-use Rattle.std.proofs.Common.{◌≡◌, ◌<◌, ◌+◌, ◌⊎◌, inl, inr, ℕ, Bool, true, false, List, [], ◌∷◌, ◌++◌, refl, sym, subst, arith, Ok, Err, Result}
+use Rattle.std.proofs.Common.{◌≡◌, ◌<◌, ◌+◌, ◌⊎◌, inl, inr, ℕ, Bool, true, false, List, [], ◌∷◌, ◌++◌, refl, Ok, Err, Result}
 use Rattle.iso_conduct.specs.Parts.{Part}
 use Rattle.iso_conduct.specs.Parts.Part.{Answer, Asks, Backs, Changes, EntryLook, Frees, IndexScan, Leaves, NewRow, Refuses, Replies, RowDelete, RowUpdate, TableScan, Undos}
 use Rattle.iso_conduct.specs.Points.{Haul, change_part, change_parts, fault_code, found_rows}
 use Rattle.iso_conduct.specs.Points.Haul.{Found, Given, Number}
 use Rattle.iso_history.specs.Guards.{is_lasting}
 use Rattle.iso_history.specs.declared.entry.Want.{Want}
-use Rattle.iso_modes.specs.declared.Mode.{Mode}
 use Rattle.iso_modes.specs.declared.Mode.TheVariants.{X}
 use Rattle.iso_predicate.specs.Assigned.{Fault, assigned}
 use Rattle.iso_sql.specs.declared.statement.Statement.{Statement}
@@ -14,7 +13,6 @@ use Rattle.iso_sql.specs.declared.statement.Statement.TheVariants as st
 use Rattle.iso_types.specs.Head.{row_fits}
 use Rattle.iso_types.specs.declared.head.Column.{Column}
 use Rattle.iso_types.specs.declared.head.Head.{Head}
-use Rattle.iso_types.specs.declared.value.Name.{Name}
 use Rattle.iso_types.specs.declared.value.Name.TheVariants.{End, Key, Row, Table}
 use Rattle.iso_types.specs.declared.value.Rid.{Rid}
 use Rattle.iso_types.specs.declared.value.TableId.{TableId}
@@ -109,6 +107,8 @@ module _ (head : Head) (s : Statement) (columns : List Column) where
   -- what a part needs, with those behind it
   abbrev pub NeedsRows : Seen → Written → Haul → Part → List Part → Type 0
   NeedsRows see g kept (Asks (Row t r) m) ps = (m ≡ X) × (row : List Value) × see t r row
+  NeedsRows see g kept (Asks (Key i v) m) ps = ⊥
+  NeedsRows see g kept (Asks (End i) m) ps = ⊥
   NeedsRows see g kept (TableScan t want n) ps = Follows t ps × Scanned see t want n kept
   NeedsRows see g kept (IndexScan k at) ps = ⊥
   NeedsRows see g kept (EntryLook k key r) ps = ⊥
@@ -171,7 +171,8 @@ module _ (head : Head) (s : Statement) (columns : List Column) where
       with-on u q f (inl e) = inl (locked u q f e)
       with-on u q f (inr e) = inr e
   rows-on see sees g h such seen locked kept (Asks (Table t) m ∷ ps) o n = (tt, rows-on see sees g h such seen locked kept ps o n.1)
-  rows-on see sees g h such seen locked kept (Asks _ m ∷ ps) o n = (tt, rows-on see sees g h such seen locked kept ps o n.1)
+  rows-on see sees g h such seen locked kept (Asks (Key i v) m ∷ ps) o n = absurd n.0
+  rows-on see sees g h such seen locked kept (Asks (End i) m ∷ ps) o n = absurd n.0
   rows-on see sees g h such seen locked kept (TableScan t want m ∷ ps) o n =
       ((n.0.0, scanned-on see sees g h such seen locked t want m kept o.0 n.0.1), rows-on see sees g h such seen locked kept ps o.1 n.1)
   rows-on see sees g h such seen locked kept (IndexScan k at ∷ ps) o n = absurd n.0

@@ -1,20 +1,19 @@
 -- An answer leaves what the changes of a statement need of its rows.
-use Rattle.std.proofs.Common.{◌≡◌, ◌<◌, ◌+◌, ◌⊎◌, inl, inr, ℕ, Bool, true, false, List, [], ◌∷◌, ◌++◌, refl, sym, ap, ◌∙◌, subst, arith, Option, Some, None, if◌then◌else◌}
+use Rattle.std.proofs.Common.{◌≡◌, ◌<◌, ◌+◌, inl, inr, ℕ, Bool, true, false, List, [], ◌∷◌, ◌++◌, refl, sym, subst, arith, Option, Some, None, if◌then◌else◌}
 use Rattle.iso_conduct.specs.Answers.{AreAnswers, answers}
 use Rattle.iso_conduct.specs.Parts.{Part}
-use Rattle.iso_conduct.specs.Parts.Part.{Answer, Asks, Backs, Changes, Claims, Collapses, EntryLook, Frees, IndexScan, Leaves, NewRow, Replies, RowDelete, RowUpdate, TableScan, Undos}
-use Rattle.iso_conduct.specs.Points.{Haul, Point, backed_up, behind, due, due_by, ending, found_rows, freeing, frees, hauled, is_kept, kept_with, look_rid, looked_by, opened_out, past_look, projected_by, queued_up, told_all, told_point}
+use Rattle.iso_conduct.specs.Parts.Part.{Asks, Backs, Changes, EntryLook, Frees, IndexScan, Leaves, Replies, TableScan}
+use Rattle.iso_conduct.specs.Points.{Haul, Point, backed_up, behind, due, due_by, ending, found_rows, freeing, frees, hauled, is_kept, look_rid, looked_by, opened_out, past_look, projected_by, queued_up, told_all, told_point}
 use Rattle.iso_conduct.specs.Points.Haul.{Found, Given, Number}
 use Rattle.iso_conduct.specs.declared.moves.Told.{Told}
 use Rattle.iso_history.specs.declared.entry.Want.{Want}
 use Rattle.iso_modes.specs.declared.Mode.{Mode}
 use Rattle.iso_sql.specs.declared.statement.Statement.{Statement}
-use Rattle.iso_standing.proofs.RowNeeds.{AllKept, AllRows, AllSuch, BehindRow, Follows, NamesSuch, NeedsRows, Scanned, Seen, WithRow, Written, changes-rows, follow-rows, names-tail, rows-more, tail-rows, is_tail}
+use Rattle.iso_standing.proofs.RowNeeds.{AllKept, AllRows, AllSuch, BehindRow, Follows, NamesSuch, Scanned, Seen, Written, changes-rows, follow-rows, names-tail, rows-more}
 use Rattle.iso_types.specs.Head.{row_fits}
 use Rattle.iso_types.specs.declared.head.Column.{Column}
 use Rattle.iso_types.specs.declared.head.Head.{Head}
-use Rattle.iso_types.specs.declared.value.Name.{Name}
-use Rattle.iso_types.specs.declared.value.Name.TheVariants.{Row, Table}
+use Rattle.iso_types.specs.declared.value.Name.TheVariants.{Row}
 use Rattle.iso_types.specs.declared.value.Rid.{Rid}
 use Rattle.iso_types.specs.declared.value.TableId.{TableId}
 use Rattle.iso_types.specs.declared.value.Value.{Value}

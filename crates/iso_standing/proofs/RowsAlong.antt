@@ -1,59 +1,42 @@
 -- Along a history the rows that a statement is to change show what was kept of them, and each is locked before its change.
-use Rattle.std.proofs.Common.{◌≡◌, ◌<◌, ◌⊎◌, inl, inr, ℕ, Bool, true, false, ◌&&◌, List, [], ◌∷◌, refl, ap, sym, ◌∙◌, subst, arith, Some, None, Option, if◌then◌else◌}
+use Rattle.std.proofs.Common.{◌≡◌, ◌<◌, ◌⊎◌, inl, inr, ℕ, Bool, true, false, ◌&&◌, List, [], ◌∷◌, refl, ap, sym, ◌∙◌, subst, arith, if◌then◌else◌}
 use Rattle.std.proofs.lemmas.Bool.Decides.{nat_tests}
-use Rattle.std.specs.Option.{option_map}
 use Rattle.std.specs.Prelude.{◌==◌}
-use Rattle.iso_conduct.proofs.FrontsAlong.{goes-on, may-made, quiet-answers}
 use Rattle.iso_conduct.proofs.Heard.{made-heard}
-use Rattle.iso_conduct.proofs.Open.{eq-is, eq-same}
+use Rattle.iso_conduct.proofs.Open.{eq-same}
 use Rattle.iso_conduct.specs.Answers.{AreAnswers}
-use Rattle.iso_conduct.specs.Conduct.{Conduct, ConductFrom, Does, MayIn, ends, has_left, heard, is_by, made, moved, moved_by, moved_in, opened, point, point_after, point_from, quiet, quiet_back, quiet_claim, quieted, ready, statement_at}
+use Rattle.iso_conduct.specs.Conduct.{ends, heard, is_by, made}
 use Rattle.iso_conduct.specs.Parts.{Part}
 use Rattle.iso_conduct.specs.Parts.Part.{Asks, EntryLook, Frees, IndexScan, NewRow, RowDelete, RowUpdate, Settles, TableScan, Undos}
-use Rattle.iso_conduct.specs.Points.{Haul, Point, behind, due, start_point, told_all, told_point}
-use Rattle.iso_conduct.specs.declared.moves.Move.{Move}
+use Rattle.iso_conduct.specs.Points.{Haul, Point, behind, told_all}
 use Rattle.iso_conduct.specs.declared.moves.Told.{Told}
 use Rattle.iso_history.proofs.pending.Conns.{no-both}
-use Rattle.iso_history.proofs.whole.Journal.{log_sound-after, start-log_sound}
-use Rattle.iso_history.proofs.whole.Sound.{sound-after, start-sound}
-use Rattle.iso_history.specs.After.{after, start, world, world_from}
-use Rattle.iso_history.specs.Facts.{IsSound, LogSound}
+use Rattle.iso_history.specs.After.{after}
+use Rattle.iso_history.specs.Facts.{IsSound}
 use Rattle.iso_history.specs.Fitted.{RowsFit}
 use Rattle.iso_history.specs.Guards.{is_end, is_free_at}
-use Rattle.iso_history.specs.Legal.{Allowed, By, ByAgent, Ground, GroundFrom}
+use Rattle.iso_history.specs.Legal.{Allowed, By}
 use Rattle.iso_history.specs.Makers.{by_agent}
-use Rattle.iso_history.specs.Marks.{mark_of}
-use Rattle.iso_history.specs.Outcomes.{unless_full}
-use Rattle.iso_history.specs.Phases.{phase}
 use Rattle.iso_history.specs.Stops.{is_full}
 use Rattle.iso_history.specs.World.{World}
 use Rattle.iso_history.specs.declared.entry.Act.{Act}
-use Rattle.iso_history.specs.declared.entry.Act.TheVariants.{Commit, Delete, Free, Insert, Reply, Rollback, Stopped, Undo, Update}
+use Rattle.iso_history.specs.declared.entry.Act.TheVariants.{Commit, Delete, Free, Insert, Rollback, Stopped, Undo, Update}
 use Rattle.iso_history.specs.declared.entry.Cause.TheVariants.{History}
 use Rattle.iso_history.specs.declared.entry.Entry.{Entry}
-use Rattle.iso_history.specs.declared.entry.Who.{Who}
-use Rattle.iso_history.specs.declared.entry.Who.TheVariants.{Agent, Dispatcher}
-use Rattle.iso_modes.specs.declared.Mode.{Mode}
+use Rattle.iso_history.specs.declared.entry.Who.TheVariants.{Agent}
 use Rattle.iso_modes.specs.declared.Mode.TheVariants.{X}
-use Rattle.iso_script.specs.declared.script.Line.{Line}
-use Rattle.iso_sql.specs.declared.statement.Statement.{Statement}
 use Rattle.iso_standing.proofs.RowNeeds.{AllRows, NamesSuch, names-any, rows-on, tail-rows}
-use Rattle.iso_standing.proofs.RowTold.{PointRows, RowTold, RowsTold, told-rows, told_all-rows}
-use Rattle.iso_standing.proofs.RowsBegin.{begin-rows}
+use Rattle.iso_standing.proofs.RowTold.{PointRows, told_all-rows}
 use Rattle.iso_standing.proofs.RowsHeard.{IsTold, act-told, ask-told, look-told}
 use Rattle.iso_standing.proofs.RowsLocked.{LocksRow, locked-stays}
 use Rattle.iso_standing.proofs.RowsMade.{calm-made, delete-made, free-made, is_calm, is_calm_part, made-is, made_by, update-made}
 use Rattle.iso_standing.proofs.RowsSeen.{LeavesRow, Sees, seen-other, seen-own}
-use Rattle.iso_types.specs.Ids.{conn_eq, rid_eq, table_eq}
-use Rattle.iso_types.specs.declared.desk.Phase.{Phase}
-use Rattle.iso_types.specs.declared.desk.Phase.TheVariants.{Closing, Idle, Rolling, Running}
-use Rattle.iso_types.specs.declared.head.Column.{Column}
+use Rattle.iso_types.specs.Ids.{rid_eq, table_eq}
 use Rattle.iso_types.specs.declared.head.Head.{Head}
 use Rattle.iso_types.specs.declared.value.Conn.{Conn}
-use Rattle.iso_types.specs.declared.value.Name.TheVariants.{End, Key, Row, Table}
+use Rattle.iso_types.specs.declared.value.Name.TheVariants.{Row}
 use Rattle.iso_types.specs.declared.value.Rid.{Rid}
 use Rattle.iso_types.specs.declared.value.TableId.{TableId}
-use Rattle.iso_types.specs.declared.value.Value.{Value}
 
 -- ---- acts
 

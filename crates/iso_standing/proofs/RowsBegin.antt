@@ -1,13 +1,13 @@
 -- At its start a statement needs no row, and what an UPDATE assigns to a row that fits its table fits it again.
-use Rattle.std.proofs.Common.{◌≡◌, ◌+◌, ℕ, zero, suc, Bool, true, false, ◌&&◌, List, [], ◌∷◌, length, refl, ap, sym, ◌∙◌, subst, arith, Option, Some, None, Ok, Err, if◌then◌else◌}
+use Rattle.std.proofs.Common.{◌≡◌, ◌+◌, ℕ, suc, Bool, true, false, List, [], ◌∷◌, length, refl, ap, sym, ◌∙◌, subst, arith, Option, Some, None, Ok, if◌then◌else◌}
 use Rattle.std.proofs.lemmas.Bool.Decides.{nat_tests}
 use Rattle.std.specs.List.{enumerate_from, range_with_len}
-use Rattle.std.specs.Option.{option_map, option_map_or, option_or}
+use Rattle.std.specs.Option.{option_map_or, option_or}
 use Rattle.std.specs.Prelude.{◌==◌, filter, map, slice_get, pos}
-use Rattle.iso_conduct.specs.Parts.{Part, change_list, change_want, level_in, listed, new_row, scan, select_list, select_mode, select_want, change_mode}
+use Rattle.iso_conduct.specs.Parts.{Part, change_want, level_in, listed, scan, select_mode, select_want, change_mode}
 use Rattle.iso_conduct.specs.Parts.Part.{Answer, Asks, Changes, NewRow, Refuses, Replies, TableScan}
-use Rattle.iso_conduct.specs.Points.{Haul, first_haul, updated_columns}
-use Rattle.iso_conduct.specs.Points.Haul.{Found, Given, Number}
+use Rattle.iso_conduct.specs.Points.{first_haul, updated_columns}
+use Rattle.iso_conduct.specs.Points.Haul.{Found}
 use Rattle.iso_history.specs.Guards.{is_lasting}
 use Rattle.iso_history.specs.World.{Setting}
 use Rattle.iso_history.specs.Writes.{minus}
@@ -33,7 +33,6 @@ use Rattle.iso_types.specs.declared.head.IndexDef.{IndexDef}
 use Rattle.iso_types.specs.declared.head.Isolation.{Isolation}
 use Rattle.iso_types.specs.declared.head.TableDef.{TableDef}
 use Rattle.iso_types.specs.declared.value.Conn.{Conn}
-use Rattle.iso_types.specs.declared.value.IndexId.{IndexId}
 use Rattle.iso_types.specs.declared.value.Name.TheVariants.{Table}
 use Rattle.iso_types.specs.declared.value.TableId.{TableId}
 use Rattle.iso_types.specs.declared.value.Value.{Value}

@@ -1,13 +1,11 @@
 -- What is heard of the entry of a step is as the changes of a statement ask: its row is locked or awaited, a shown row is seen.
-use Rattle.std.proofs.Common.{◌≡◌, ◌⊎◌, inl, inr, ℕ, Bool, true, false, List, [], ◌∷◌, refl, ap, sym, ◌∙◌, subst, Some, None, Option, if◌then◌else◌}
+use Rattle.std.proofs.Common.{◌≡◌, inl, inr, ℕ, Bool, true, false, List, ◌∷◌, refl, sym, ◌∙◌, subst, Some, None, Option, if◌then◌else◌}
 use Rattle.std.specs.Option.{option_map_or}
 use Rattle.std.specs.Prelude.{nat_lt}
-use Rattle.iso_conduct.specs.Conduct.{heard, made}
+use Rattle.iso_conduct.specs.Conduct.{heard}
 use Rattle.iso_conduct.specs.Parts.{Part}
 use Rattle.iso_conduct.specs.Parts.Part.{Asks, Collapses, TableScan}
-use Rattle.iso_conduct.specs.Points.{Haul, Point}
-use Rattle.iso_conduct.specs.Points.Haul.{Found}
-use Rattle.iso_conduct.specs.declared.moves.Told.{Told}
+use Rattle.iso_conduct.specs.Points.{Point}
 use Rattle.iso_history.proofs.locks.Joins.{runs-alone}
 use Rattle.iso_history.proofs.log.Fitted.{present-fits}
 use Rattle.iso_history.proofs.pending.ModeTests.{at_least-second}
@@ -19,7 +17,6 @@ use Rattle.iso_history.specs.Guards.{is_lasting}
 use Rattle.iso_history.specs.Legal.{By, ByAgent}
 use Rattle.iso_history.specs.Looks.{look, shown}
 use Rattle.iso_history.specs.Makers.{by_agent}
-use Rattle.iso_history.specs.Marks.{mark_of}
 use Rattle.iso_history.specs.Outcomes.{asked_by, at_limit, escalated_by, limited_by, look_act, look_by, unless_full}
 use Rattle.iso_history.specs.Requests.{Outcome, escalation, request}
 use Rattle.iso_history.specs.Requests.Outcome.{Gives, Limit}
@@ -27,7 +24,7 @@ use Rattle.iso_history.specs.Stops.{is_full}
 use Rattle.iso_history.specs.Versions.{slots, versions}
 use Rattle.iso_history.specs.World.{World}
 use Rattle.iso_history.specs.declared.entry.Act.{Act}
-use Rattle.iso_history.specs.declared.entry.Act.TheVariants.{Back, Claim, Collapse, Commit, Delete, Free, Insert, Lock, Look, Mark, Next, Refused, Reply, Rollback, ScanEnd, Set, Stopped, Undo, Update}
+use Rattle.iso_history.specs.declared.entry.Act.TheVariants.{Back, Claim, Collapse, Delete, Free, Insert, Lock, Look, Mark, Next, Refused, ScanEnd, Set, Stopped, Undo, Update}
 use Rattle.iso_history.specs.declared.entry.Cause.TheVariants.{History}
 use Rattle.iso_history.specs.declared.entry.Got.{Got}
 use Rattle.iso_history.specs.declared.entry.Stand.{Stand}
@@ -166,8 +163,13 @@ module _ (head : Head) (w : World) (c : Conn) (s : IsSound head w) (p : Point) w
         let a = Lock (Row t r) X Kept why.Asked (Got.Queued k) in
         let x : Wait = record { name = Row t r; conn = c; target = k; term = Kept } in
         let is = request-queued head w c (Row t r) X k q in
-        lock-told a (inr (inl (x, wait-queued_own w.holds x w.waits (runs-alone w c al.1.0.0), refl,
-        subst (λ z. at_least z X ≡ true) (sym is) (at-target (held w.holds c (Row t r))), refl)))
+        lock-told a (inr (inl (
+          x,
+          wait-queued_own w.holds x w.waits (runs-alone w c al.1.0.0),
+          refl,
+          subst (λ z. at_least z X ≡ true) (sym is) (at-target (held w.holds c (Row t r))),
+          refl,
+        )))
     asked-told (Gives Got.TimedOut) q al = (tt, tt)
     asked-told Limit q al = limit-is
 

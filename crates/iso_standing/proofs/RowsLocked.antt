@@ -1,5 +1,5 @@
 -- A row that a statement has locked for writing, or awaits, stays so until its unit ends or it has to roll back.
-use Rattle.std.proofs.Common.{◌≡◌, ◌⊎◌, inl, inr, ℕ, Bool, true, false, not, ◌&&◌, ◌||◌, List, [], ◌∷◌, refl, ap, sym, ◌∙◌, subst, is_some, Some, None, Option, option_map}
+use Rattle.std.proofs.Common.{◌≡◌, ◌⊎◌, inl, inr, ℕ, Bool, true, false, not, ◌&&◌, ◌||◌, List, [], ◌∷◌, refl, ap, sym, ◌∙◌, subst, is_some, Some, None, Option}
 use Rattle.std.specs.Option.{option_map_or}
 use Rattle.std.specs.Prelude.{if◌then◌else◌, is_none}
 use Rattle.std.proofs.lemmas.Bool.{and_parts}
@@ -9,23 +9,22 @@ use Rattle.iso_history.proofs.facts.Lasting.{drops, write_lock-stays}
 use Rattle.iso_history.proofs.facts.Others.{wait-others}
 use Rattle.iso_history.proofs.locks.Finds.{find-filter_kept, find-is}
 use Rattle.iso_history.proofs.locks.Modes.{covers-lower}
-use Rattle.iso_history.proofs.pending.Conns.{and-both, row_name-same}
+use Rattle.iso_history.proofs.pending.Conns.{row_name-same}
 use Rattle.iso_history.proofs.pending.Dues.{added-new, added-raised}
 use Rattle.iso_history.proofs.pending.Kept.{keeps-briefs, keeps-of}
 use Rattle.iso_history.proofs.pending.ModeTests.{at_least-second}
 use Rattle.iso_history.proofs.pending.WritesPlaced.{held-settled}
 use Rattle.iso_history.specs.After.{after}
-use Rattle.iso_history.specs.Facts.{IsOpen, LocksSound, WaitersOpen, has_write_lock, keeps_mode}
-use Rattle.iso_history.specs.Holds.{Hand, claimed, hand_of, holds_by_agent, holds_by_hand, spared}
+use Rattle.iso_history.specs.Facts.{LocksSound, WaitersOpen, has_write_lock, keeps_mode}
+use Rattle.iso_history.specs.Holds.{hand_of, holds_by_agent, holds_by_hand, spared}
 use Rattle.iso_history.specs.Holds.Hand.{Drops, Leaves, Places}
 use Rattle.iso_history.specs.Legal.{Allowed, By, ByAgent}
-use Rattle.iso_history.specs.Makers.{by_agent}
-use Rattle.iso_history.specs.Phases.{Doom, doom_by, doom_of, doom_of_agent, doom_of_dispatcher, is_phase, phase, phase_of, victim}
+use Rattle.iso_history.specs.Phases.{Doom, doom_by, doom_of, doom_of_dispatcher, is_phase, phase, phase_of, victim}
 use Rattle.iso_history.specs.Phases.Doom.{Dooms, Lifts, Spares}
 use Rattle.iso_history.specs.Requests.{is_row_mode}
-use Rattle.iso_history.specs.Waits.{Joining, joining_of, joining_of_agent, joining_of_dispatcher, waits_by}
-use Rattle.iso_history.specs.Waits.Joining.{Joins, Passes, Quits}
-use Rattle.iso_history.specs.World.{World, at_conn}
+use Rattle.iso_history.specs.Waits.{joining_of_dispatcher, waits_by}
+use Rattle.iso_history.specs.Waits.Joining.{Passes, Quits}
+use Rattle.iso_history.specs.World.{World}
 use Rattle.iso_history.specs.declared.entry.Act.{Act}
 use Rattle.iso_history.specs.declared.entry.Act.TheVariants.{Back, Claim, Collapse, Commit, Delete, Expire, Free, Insert, Lock, Look, Mark, Next, Refused, Reply, Rollback, ScanEnd, Set, Stopped, Undo, Update, Victim}
 use Rattle.iso_history.specs.declared.entry.Entry.{Entry}
@@ -33,20 +32,19 @@ use Rattle.iso_history.specs.declared.entry.Got.{Got}
 use Rattle.iso_history.specs.declared.entry.Stand.{Stand}
 use Rattle.iso_history.specs.declared.entry.Who.{Who}
 use Rattle.iso_history.specs.declared.entry.Who.TheVariants.{Agent, Dispatcher}
-use Rattle.iso_modes.specs.Modes.{at_least, covers, joined}
+use Rattle.iso_modes.specs.Modes.{at_least, covers}
 use Rattle.iso_modes.specs.Terms.{is_kept}
 use Rattle.iso_modes.specs.declared.Mode.{Mode}
 use Rattle.iso_modes.specs.declared.Mode.TheVariants.{X}
 use Rattle.iso_modes.specs.declared.Term.{Term}
 use Rattle.iso_modes.specs.declared.Term.TheVariants.{Brief, Fresh, Kept}
-use Rattle.iso_queue.specs.Locks.{Hold, Request, added, hold_on, is_covered, placed, settled, without_briefs}
+use Rattle.iso_queue.specs.Locks.{Hold, Request, added, hold_on, is_covered, settled, without_briefs}
 use Rattle.iso_queue.specs.Queues.{Wait, unqueued, wait_of}
 use Rattle.iso_types.specs.Ids.{conn_eq}
 use Rattle.iso_types.specs.declared.desk.Phase.{Phase}
 use Rattle.iso_types.specs.declared.desk.Phase.TheVariants.{Closing, Rolling, Running}
 use Rattle.iso_types.specs.declared.head.Head.{Head}
 use Rattle.iso_types.specs.declared.value.Conn.{Conn}
-use Rattle.iso_types.specs.declared.value.Name.{Name}
 use Rattle.iso_types.specs.declared.value.Name.TheVariants.{Row, Table}
 use Rattle.iso_types.specs.declared.value.Rid.{Rid}
 use Rattle.iso_types.specs.declared.value.TableId.{TableId}

@@ -1,12 +1,11 @@
 -- What the entry of each step does to the rows that a statement is to change: most leave them, and the locks on them.
-use Rattle.std.proofs.Common.{◌≡◌, ◌⊎◌, inl, inr, ℕ, Bool, true, false, List, [], ◌∷◌, refl, ap, sym, ◌∙◌, subst, Some, None, Option, if◌then◌else◌}
+use Rattle.std.proofs.Common.{◌≡◌, ◌⊎◌, inl, inr, Bool, true, false, List, [], ◌∷◌, refl, ap, Some, None, Option, if◌then◌else◌}
 use Rattle.std.specs.Prelude.{nat_lt}
-use Rattle.iso_conduct.specs.Conduct.{ends, heard, made}
+use Rattle.iso_conduct.specs.Conduct.{made}
 use Rattle.iso_conduct.specs.Outcomes.{act_of}
 use Rattle.iso_conduct.specs.Parts.{Part}
-use Rattle.iso_conduct.specs.Parts.Part.{Asks, Backs, Claims, Collapses, EntryLook, Frees, IndexScan, Leaves, Marks, NewRow, Refuses, Replies, RowDelete, RowUpdate, Sets, Settles, TableScan, Undos}
-use Rattle.iso_conduct.specs.Points.{Haul, Point, due, due_by, row_by, row_due, rows_due}
-use Rattle.iso_conduct.specs.declared.moves.Move.{Move}
+use Rattle.iso_conduct.specs.Parts.Part.{Asks, EntryLook, Frees, IndexScan, NewRow, Refuses, RowDelete, RowUpdate, Settles, TableScan, Undos}
+use Rattle.iso_conduct.specs.Points.{Haul, Point, due_by, row_by, rows_due}
 use Rattle.iso_history.specs.Makers.{by_agent}
 use Rattle.iso_history.specs.Nexts.{next}
 use Rattle.iso_history.specs.Outcomes.{asked_by, at_limit, blocked_by, escalated_by, limited_by, look_act, look_by, next_by, unless_full, written_by}
@@ -18,7 +17,7 @@ use Rattle.iso_history.specs.Versions.{slots}
 use Rattle.iso_history.specs.World.{World}
 use Rattle.iso_history.specs.Writes.{Written, deletes, updates}
 use Rattle.iso_history.specs.declared.entry.Act.{Act}
-use Rattle.iso_history.specs.declared.entry.Act.TheVariants.{Commit, Delete, Free, Insert, Lock, Look, ScanEnd, Stopped, Undo, Update}
+use Rattle.iso_history.specs.declared.entry.Act.TheVariants.{Commit, Delete, Free, Insert, ScanEnd, Stopped, Undo, Update}
 use Rattle.iso_history.specs.declared.entry.Cause.TheVariants.{History}
 use Rattle.iso_history.specs.declared.entry.Stand.{Stand}
 use Rattle.iso_history.specs.declared.entry.Want.{Want}

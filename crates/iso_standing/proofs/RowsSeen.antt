@@ -1,11 +1,11 @@
 -- A row that a connection reads to stay shows the same until its own change.
-use Rattle.std.proofs.Common.{List, [], ◌∷◌, ◌≡◌, ◌<◌, ◌≤◌, ◌+◌, ◌⊎◌, inl, inr, ℕ, zero, suc, Bool, true, false, not, ◌&&◌, ◌||◌, refl, ap, sym, ◌∙◌, arith, Some, None, Option, subst, if◌then◌else◌, IsTrue, ltb-true}
+use Rattle.std.proofs.Common.{List, [], ◌∷◌, ◌≡◌, ◌<◌, ◌⊎◌, inl, inr, ℕ, Bool, true, false, not, ◌&&◌, ◌||◌, refl, ap, sym, ◌∙◌, arith, Some, None, Option, if◌then◌else◌}
 use Rattle.std.proofs.lemmas.Bool.Decides.{nat_tests}
 use Rattle.std.specs.Option.{option_map_or}
-use Rattle.std.specs.Prelude.{◌==◌, is_none, unwrap_or, is_some}
+use Rattle.std.specs.Prelude.{◌==◌, is_none, unwrap_or}
 use Rattle.iso_conduct.specs.Conduct.{is_by}
 use Rattle.iso_history.proofs.log.Fitted.{present-fits}
-use Rattle.iso_history.proofs.pending.Conns.{and-first, at_conn-same, not-false, no-both, row_name-same}
+use Rattle.iso_history.proofs.pending.Conns.{at_conn-same, no-both, row_name-same}
 use Rattle.iso_history.proofs.pending.Dues.{added-new, added-raised}
 use Rattle.iso_history.proofs.pending.Finds.{find-kept}
 use Rattle.iso_history.proofs.pending.Containing.{Each}
@@ -24,10 +24,10 @@ use Rattle.iso_history.specs.Facts.{IsSound}
 use Rattle.iso_history.specs.Fitted.{RowsFit}
 use Rattle.iso_history.specs.Guards.{ends_unit, is_end, is_free_at, is_freed, is_lasting, is_own}
 use Rattle.iso_history.specs.Holds.{holds_by_agent, placed_by_want, request_on, spared}
-use Rattle.iso_history.specs.Legal.{Allowed, By, ByAgent}
+use Rattle.iso_history.specs.Legal.{Allowed, ByAgent}
 use Rattle.iso_history.specs.Looks.{locks_row, shown}
 use Rattle.iso_history.specs.Makers.{by_agent}
-use Rattle.iso_history.specs.Units.{unit_of, unit_of_maker}
+use Rattle.iso_history.specs.Units.{unit_of}
 use Rattle.iso_history.specs.Versions.{change_of, committed, is_changed_beside, is_dead, is_pending, is_pending_beside, pending_version, present, slots, tables_by, versions, view}
 use Rattle.iso_history.specs.World.{Version, World}
 use Rattle.iso_history.specs.World.Last.{Looked}
