@@ -1,6 +1,8 @@
 pub mod RowNeeds
 pub mod RowTold
 pub mod RowsSeen
+pub mod RowsLooked
+pub mod GoingOn
 pub mod RowsLocked
 pub mod RowsBegin
 pub mod RowsMade

@@ -160,7 +160,8 @@ module _ (head : Head) (s : Statement) (columns : List Column) where
     scanned-on t want n (Number m) o k = tt
     scanned-on t want n (Given rows) o k = tt
 
-  pub rows-on : (see sees : Seen) (g h : Written) (such : Rid → Type 0) (seen : (t : TableId) (r : Rid) (row : List Value) → such r → see t r row → sees t r row)
+  pub rows-on : (see sees : Seen) (g h : Written) (such : Rid → Type 0)
+      (seen : (t : TableId) (r : Rid) (row : List Value) → such r → see t r row → sees t r row)
       (locked : (t : TableId) (r : Rid) → such r → g t r → h t r) (kept : Haul) (ps : List Part) → NamesSuch such kept ps → AllRows see g kept ps
       → AllRows sees h kept ps
   rows-on see sees g h such seen locked kept [] o n = tt

@@ -78,7 +78,8 @@ module _ (head : Head) (see : Seen) where
     kept-more t n (x ∷ ks) row sees fits k =
         let lt = k.2 in (k.0, k.1, omega (arith, lt), such-more x.0.0 (rid_of n) ks row lt k.3, kept-more t n ks row sees fits k.4)
 
-    scanned-later : (t : TableId) (want : Want) (n : ℕ) (kept : Haul) → Scanned head s columns see t want n kept → Scanned head s columns see t want (n + 1) kept
+    scanned-later : (t : TableId) (want : Want) (n : ℕ) (kept : Haul) → Scanned head s columns see t want n kept
+        → Scanned head s columns see t want (n + 1) kept
     scanned-later t want n (Found ks) k = (k.0, kept-later t n ks k.1)
     scanned-later t want n (Number m) k = tt
     scanned-later t want n (Given rows) k = tt
@@ -154,7 +155,8 @@ module _ (head : Head) (see : Seen) where
   shown-rows g p shown fresh a n new false = freed-rows p.statement p.columns g p.kept p.left fresh n
 
   -- the scan is over
-  over-rows : (g : Written) (p : Point) (ps : List Part) → answers (due_by p.kept ps) Told.EndOfTable ≡ true → AllRows head p.statement p.columns see g p.kept ps
+  over-rows : (g : Written) (p : Point) (ps : List Part) → answers (due_by p.kept ps) Told.EndOfTable ≡ true
+      → AllRows head p.statement p.columns see g p.kept ps
       → AllRows head p.statement p.columns see g p.kept (opened_out p (behind ps))
   over-rows g p [] a n = tt
   over-rows g p (TableScan t want m ∷ ps) a n = go p.kept refl ps n.0.0 n.0.1 n.1

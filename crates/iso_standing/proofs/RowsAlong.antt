@@ -92,40 +92,46 @@ module _ (head : Head) (w : World) (s : IsSound head w) (c : Conn) where
   -- ---- an own entry
 
   module _ (fit : RowsFit head w.tables) (p : Point) (a : Act) (al : Allowed head w (by_agent c a)) (goes : ends a ≡ false) where
-    later : World
+    -- the world behind it, and what parts of the statement need in this world and in that one
+    abbrev later : World
     later = after head w (by_agent c a)
+
+    abbrev Now : Haul → List Part → Type 0
+    Now = AllRows head p.statement p.columns (Sees w c) (LocksRow head w c)
+
+    abbrev Later : Haul → List Part → Type 0
+    Later = AllRows head p.statement p.columns (Sees later c) (LocksRow head later c)
 
     -- of the rows that are such, which it leaves, it leaves what is needed
     own-leave : (such : Rid → Type 0) → ((t : TableId) (r : Rid) → such r → LeavesRow head w s c t r a)
         → ((t : TableId) (r : Rid) → such r → is_free_at t r a ≡ false) → (kept : Haul) (ps : List Part) → NamesSuch such kept ps
-        → AllRows head p.statement p.columns (Sees w c) (LocksRow head w c) kept ps
-        → AllRows head p.statement p.columns (Sees (after head w (by_agent c a)) c) (LocksRow head (after head w (by_agent c a)) c) kept ps
-    own-leave such leaves free kept ps names n = rows-on head p.statement p.columns (Sees w c) (Sees (after head w (by_agent c a)) c)
-        (LocksRow head w c) (LocksRow head (after head w (by_agent c a)) c) such
+        → Now kept ps → Later kept ps
+    own-leave such leaves free kept ps names n = rows-on head p.statement p.columns (Sees w c) (Sees later c) (LocksRow head w c) (LocksRow head later c) such
         (λ t r row u h. seen-own head w s c a al (end-ends a goes) t r row (leaves t r u) (free t r u) h)
         (λ t r u l. locked-stays head w c s.locks (by_agent c a) al (rw (eq-same c, goes) refl) t r l) kept ps names n
 
     -- the point that is told
     abbrev Goal : Type 0
-    Goal = Rows (after head w (by_agent c a)) (told_all p (heard w (after head w (by_agent c a)) c a))
+    Goal = Rows later (told_all p (heard w later c a))
 
     module _ (is : made head w c p ≡ a) where
-      answered : AreAnswers p (heard w (after head w (by_agent c a)) c a)
-      answered = subst (λ x. AreAnswers p (heard w (after head w (by_agent c a)) c x)) is (made-heard head w (after head w (by_agent c a)) c p)
+      answered : AreAnswers p (heard w later c a)
+      answered = subst (λ x. AreAnswers p (heard w later c x)) is (made-heard head w later c p)
 
       -- where the needs go on, and what is heard is as they ask
-      moved-rows : Rows (after head w (by_agent c a)) p → IsTold head w c s p a → Goal
-      moved-rows n told = told_all-rows head (Sees (after head w (by_agent c a)) c) (LocksRow head (after head w (by_agent c a)) c) p
-          (heard w (after head w (by_agent c a)) c a) answered n told
+      moved-rows : Rows later p → IsTold head w c s p a → Goal
+      moved-rows n told = told_all-rows head (Sees later c) (LocksRow head later c) p
+          (heard w later c a) answered n told
 
-      calm-rows : is_calm a ≡ true → Rows w p → Rows (after head w (by_agent c a)) p
+      calm-rows : is_calm a ≡ true → Rows w p → Rows later p
       calm-rows calm n =
           own-leave (λ q. Unit {0}) (λ t r u. calm-leaves t r a calm) (λ t r u. calm-frees t r a calm) p.kept p.left (names-any p.kept p.left) n
 
       -- where the first part asks for no row, and looks at none, nothing is asked of what is heard
       other-told : (ps : List Part) → p.left ≡ ps → asks_row ps ≡ false → scans ps ≡ false → IsTold head w c s p a
-      other-told ps e ask scan = act-told head c (Sees (after head w (by_agent c a)) c) (LocksRow head (after head w (by_agent c a)) c) p w
-          (after head w (by_agent c a)) (λ t r m rest f. absurd (no-both (ap asks_row (sym e ∙ f)) ask)) (λ sh t want k rest ks row f g h. absurd (no-both (ap scans (sym e ∙ f)) scan)) a
+      other-told ps e ask scan = act-told head c (Sees later c) (LocksRow head later c) p w later
+          (λ t r m rest f. absurd (no-both (ap asks_row (sym e ∙ f)) ask))
+          (λ sh t want k rest ks row f g h. absurd (no-both (ap scans (sym e ∙ f)) scan)) a
 
       module _ (ps : List Part) (e : p.left ≡ ps) where
         same : made_by head w c p ps ≡ a
@@ -140,17 +146,13 @@ module _ (head : Head) (w : World) (s : IsSound head w) (c : Conn) where
         told-as : IsTold head w c s p (made_by head w c p ps) → IsTold head w c s p a
         told-as told = subst (IsTold head w c s p) same told
 
-        back-to : AllRows head p.statement p.columns (Sees (after head w (by_agent c a)) c) (LocksRow head (after head w (by_agent c a)) c) p.kept ps
-            → Rows (after head w (by_agent c a)) p
-        back-to n = subst (AllRows head p.statement p.columns (Sees (after head w (by_agent c a)) c) (LocksRow head (after head w (by_agent c a)) c) p.kept)
-            (sym e) n
+        back-to : Later p.kept ps → Rows later p
+        back-to n = subst (Later p.kept) (sym e) n
 
         -- the first part is done
-        done-rows : (b : Act) → a ≡ b → heard w (after head w (by_agent c a)) c b ≡ Told.Done ∷ []
-            → AllRows head p.statement p.columns (Sees (after head w (by_agent c a)) c) (LocksRow head (after head w (by_agent c a)) c) p.kept (behind ps) → Goal
-        done-rows b f done n = subst (λ ts. Rows (after head w (by_agent c a)) (told_all p ts)) (sym (ap (heard w (after head w (by_agent c a)) c) f ∙ done))
-            (subst (λ x. AllRows head p.statement p.columns (Sees (after head w (by_agent c a)) c) (LocksRow head (after head w (by_agent c a)) c) p.kept (behind x))
-            (sym e) n)
+        done-rows : (b : Act) → a ≡ b → heard w later c b ≡ Told.Done ∷ [] → Later p.kept (behind ps) → Goal
+        done-rows b f done n = subst (λ ts. Rows later (told_all p ts)) (sym (ap (heard w later c) f ∙ done))
+            (subst (λ x. Later p.kept (behind x)) (sym e) n)
 
         is-is : (b : Act) → (made_by head w c p ps ≡ b) ⊎ (is_calm (made_by head w c p ps) ≡ true) → (a ≡ b) ⊎ (is_calm a ≡ true)
         is-is b (inl k) = inl (sym same ∙ k)
@@ -159,14 +161,13 @@ module _ (head : Head) (w : World) (s : IsSound head w) (c : Conn) where
       -- a change leaves the rows above it
       above-rows : (t : TableId) (r : Rid) (b : Act) → a ≡ b → ((u : TableId) (q : Rid) → (q ≡ r → ⊥) → LeavesRow head w s c u q b)
           → ((u : TableId) (q : Rid) → is_free_at u q b ≡ false) → (kept : Haul) (ps : List Part) → NamesSuch (λ q. r.0 < q.0) kept ps
-          → AllRows head p.statement p.columns (Sees w c) (LocksRow head w c) kept ps
-          → AllRows head p.statement p.columns (Sees (after head w (by_agent c a)) c) (LocksRow head (after head w (by_agent c a)) c) kept ps
+          → Now kept ps → Later kept ps
       above-rows t r b f leaves free kept ps names n = own-leave (λ q. r.0 < q.0)
           (λ u q lt. subst (LeavesRow head w s c u q) (sym f) (leaves u q (λ k. let z : q.0 ≡ r.0 = ap (λ (x : Rid). x.0) k in omega (arith, lt, z))))
           (λ u q lt. subst (λ z. is_free_at u q z ≡ false) (sym f) (free u q)) kept ps names n
 
       -- by the first part
-      by : (ps : List Part) → p.left ≡ ps → AllRows head p.statement p.columns (Sees w c) (LocksRow head w c) p.kept ps → Rows w p → Goal
+      by : (ps : List Part) → p.left ≡ ps → Now p.kept ps → Rows w p → Goal
       by [] e m n = moved-rows (calm-rows (is-calm [] e refl) n) (other-told [] e refl refl)
       by (Asks (Row t r) k ∷ ps) e m n =
           let x : p.left ≡ Asks (Row t r) X ∷ ps = e ∙ ap (λ z. Asks (Row t r) z ∷ ps) m.0.0 in

@@ -107,7 +107,8 @@ pub plain-plan : (head : Head) → head.indexes ≡ [] → (t : TableId) (cond :
 plain-plan head plain t cond = ap (first_path head cond) none
   where
     none : indexes_of head t ≡ []
-    none = ap (λ (xs : List IndexDef). filter (λ i. option_map_or (λ u. table_eq u t) (table_of_index head i) false) (map (λ k. record { 0 = k }) (range_with_len 0 (length xs)))) plain
+    none = ap (λ (xs : List IndexDef). filter (λ i. option_map_or (λ u. table_eq u t) (table_of_index head i) false)
+        (map (λ k. record { 0 = k }) (range_with_len 0 (length xs)))) plain
 
 change-lasts : (level : Isolation) → is_lasting (change_want level) ≡ true
 change-lasts Isolation.Ur = refl

@@ -42,7 +42,8 @@ use Rattle.iso_standing.proofs.RowNeeds.{Scanned, Seen, Written}
 use Rattle.iso_standing.proofs.RowTold.{RowAsked, RowsTold, Shows, rid_of}
 use Rattle.iso_standing.proofs.RowsLocked.{LocksRow, placed-writes}
 use Rattle.iso_standing.proofs.RowsMade.{made_by}
-use Rattle.iso_standing.proofs.RowsSeen.{Sees, look-sees}
+use Rattle.iso_standing.proofs.RowsLooked.{look-sees}
+use Rattle.iso_standing.proofs.RowsSeen.{Sees}
 use Rattle.iso_types.specs.Head.{row_fits}
 use Rattle.iso_types.specs.declared.head.Column.{Column}
 use Rattle.iso_types.specs.declared.head.Head.{Head}
@@ -189,7 +190,8 @@ module _ (head : Head) (w : World) (c : Conn) (s : IsSound head w) (p : Point) w
         let tables : t ≡ u = cc in
         let numbers : n ≡ m = cc in
         subst (λ z. see z (rid_of m) row × (row_fits head z row ≡ true)) tables
-        (subst (λ z. see t (rid_of z) row × (row_fits head t row ≡ true)) numbers (sees, present-fits head t (versions w t (rid_of n)) row (fit t (rid_of n)) sees.1))
+        (subst (λ z. see t (rid_of z) row × (row_fits head t row ≡ true)) numbers
+        (sees, present-fits head t (versions w t (rid_of n)) row (fit t (rid_of n)) sees.1))
       where
         see : Seen
         see = Sees (after head w (by_agent c (Look t (rid_of n) want Got.Granted))) c
