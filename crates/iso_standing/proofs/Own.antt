@@ -1,5 +1,6 @@
 -- What an own entry that goes on makes of the Collapse that is due, of its last entry and of its doom, as its parts have it in front.
 use Rattle.std.proofs.Common.{◌≡◌, ◌⊎◌, inl, inr, ℕ, Bool, true, false, List, [], ◌∷◌, refl, sym, ◌∙◌, ap, subst, Option, Some, None, option_map, if◌then◌else◌, pos}
+use Rattle.std.specs.Option.{option_map_or}
 use Rattle.std.specs.Prelude.{nat_lt}
 use Rattle.iso_conduct.proofs.Open.{eq-same}
 use Rattle.iso_conduct.specs.Answers.{AreAnswers, answers}
@@ -65,24 +66,28 @@ pub record GoesWith (head : Head) (w : World) (c : Conn) (a : Act) (ps : List Pa
   pub fate : FateIs (doom_by w.doom (doom_of_agent c a) c) ps
 
 -- a Claim makes the awaited Collapse due
-claim-due : (l : Last) → option_map (λ d. d.0) (due_of_claim l) ≡ awaits_table l
+pub claim-due : (l : Last) → option_map (λ d. d.0) (due_of_claim l) ≡ awaits_table l
 claim-due (Looked t r) = refl
 claim-due (Awaits t m) = refl
 claim-due Claimed = refl
 claim-due Other = refl
 
-unfreed : (w : World) (c : Conn) (ps : List Part) → freed_of ps ≡ None → FreesLooked w c ps
+-- a row of a table
+abbrev pub row_at : TableId → Rid → Option (TableId × Rid)
+row_at t r = Some (t, r)
+
+pub unfreed : (w : World) (c : Conn) (ps : List Part) → freed_of ps ≡ None → FreesLooked w c ps
 unfreed w c ps n t r e = absurd (never (sym n ∙ e))
   where
-    never : None ≡ Some (t, r) → ⊥
+    never : None ≡ row_at t r → ⊥
     never q = cc
 
-pair-first : {A B : Type 0} (a x : A) (b y : B) → Some (a, b) ≡ Some (x, y) → (a ≡ x) × (b ≡ y)
-pair-first a x b y e = let q : (a, b) ≡ (x, y) = cc in (ap (λ z. z.0) q, ap (λ z. z.1) q)
+one-row : (t u : TableId) (r s : Rid) → row_at t r ≡ row_at u s → (t ≡ u) × (r ≡ s)
+one-row t u r s e = (ap (λ o. option_map_or (λ q. q.0) o t) e, ap (λ o. option_map_or (λ q. q.1) o r) e)
 
 module _ (head : Head) (w : World) (c : Conn) where
   -- the entry that is made and goes on is that of the step
-  act-made : (p : Point) (a : Act) → made head w c p ≡ a → ends a ≡ false → act_of head w c (row_due p) (rows_due p) (due p) ≡ a
+  pub act-made : (p : Point) (a : Act) → made head w c p ≡ a → ends a ≡ false → act_of head w c (row_due p) (rows_due p) (due p) ≡ a
   act-made p a m e = go (is_full head w (by_agent c (act_of head w c (row_due p) (rows_due p) (due p)))) m
     where
       go : (b : Bool) → (if b then Stopped History else act_of head w c (row_due p) (rows_due p) (due p)) ≡ a
@@ -120,10 +125,10 @@ module _ (head : Head) (w : World) (c : Conn) where
           never : ScanEnd u (slots w u) ≡ Look t r want got → ⊥
           never q = cc
 
-  same-row : (t u : TableId) (r s : Rid) → (u ≡ t) × (s ≡ r) → Some (u, s) ≡ Some (t, r)
-  same-row t u r s e = ap (λ z. Some (z, s)) e.0 ∙ ap (λ z. Some (t, z)) e.1
+  same-row : (t u : TableId) (r s : Rid) → (u ≡ t) × (s ≡ r) → row_at u s ≡ row_at t r
+  same-row t u r s e = ap (λ z. row_at z s) e.0 ∙ ap (row_at t) e.1
 
-  sought-is : (kept : Haul) (ps : List Part) (told : Option (List Value)) (fresh : Bool) (t : TableId) (r : Rid) (want : Want) (got : Got)
+  pub sought-is : (kept : Haul) (ps : List Part) (told : Option (List Value)) (fresh : Bool) (t : TableId) (r : Rid) (want : Want) (got : Got)
       → answers (due_by kept ps) (Told.Shown told fresh) ≡ true
       → act_of head w c (row_by ps) (rows_by kept ps) (due_by kept ps) ≡ Look t r want got → sought_by ps ≡ Some (t, r)
   sought-is kept [] told fresh t r want got a e = absurd (cc)
@@ -134,35 +139,35 @@ module _ (head : Head) (w : World) (c : Conn) where
 
   module _ (spared : w.doom c ≡ None) where
     -- an act that leaves nothing in front
-    bare-goes : (a : Act) (ps : List Part) → due_of a (w.last c) ≡ None → awaits_table (last_of a) ≡ None → doom_of_agent c a ≡ Spares → IsBare ps
+    pub bare-goes : (a : Act) (ps : List Part) → due_of a (w.last c) ≡ None → awaits_table (last_of a) ≡ None → doom_of_agent c a ≡ Spares → IsBare ps
         → Unrolled ps → GoesWith head w c a ps
     bare-goes a ps d l s b f = record {
       collapse = ap (option_map (λ q. q.0)) d ∙ sym b.collapse;
       awaited = l ∙ sym b.awaited;
-      frees = unfreed _ c ps b.freed;
+      frees = unfreed (after head w (by_agent c a)) c ps b.freed;
       fate = subst (λ o. FateIs o ps) (sym (ap (λ x. doom_by w.doom x c) s ∙ spared)) f;
     }
 
     -- a request that timed out
-    timed-goes : (a : Act) → due_of a (w.last c) ≡ None → awaits_table (last_of a) ≡ None → doom_of_agent c a ≡ Dooms c 68
+    pub timed-goes : (a : Act) → due_of a (w.last c) ≡ None → awaits_table (last_of a) ≡ None → doom_of_agent c a ≡ Dooms c 68
         → GoesWith head w c a (rolling_list 68)
     timed-goes a d l s = record {
       collapse = ap (option_map (λ q. q.0)) d;
       awaited = l;
-      frees = unfreed _ c (rolling_list 68) refl;
+      frees = unfreed (after head w (by_agent c a)) c (rolling_list 68) refl;
       fate = subst (λ x. FateIs (doom_by w.doom x c) (rolling_list 68)) (sym s) (rw (eq-same c) (inr refl));
     }
 
     module _ (p : Point) (h : AreSteps p.left) where
-      told-goes : (a : Act) (t : Told) → due_of a (w.last c) ≡ None → awaits_table (last_of a) ≡ None → doom_of_agent c a ≡ Spares
+      pub told-goes : (a : Act) (t : Told) → due_of a (w.last c) ≡ None → awaits_table (last_of a) ≡ None → doom_of_agent c a ≡ Spares
           → says_more t ≡ false → says_end t ≡ false → GoesWith head w c a (told_point p t).left
       told-goes a t d l s m e = bare-goes a (told_point p t).left d l s (told-bare p t m h) (inl (told-fronted p t e h))
 
-      silent-goes : (a : Act) → due_of a (w.last c) ≡ None → awaits_table (last_of a) ≡ None → doom_of_agent c a ≡ Spares
+      pub silent-goes : (a : Act) → due_of a (w.last c) ≡ None → awaits_table (last_of a) ≡ None → doom_of_agent c a ≡ Spares
           → GoesWith head w c a p.left
       silent-goes a d l s = bare-goes a p.left d l s (steps-bare p.left h) (inl (steps-fronted p.left h))
 
-      looked-goes : (t : TableId) (r : Rid) (want : Want) → sought_by p.left ≡ Some (t, r)
+      pub looked-goes : (t : TableId) (r : Rid) (want : Want) → sought_by p.left ≡ Some (t, r)
           → GoesWith head w c (Look t r want Got.Granted)
           (told_point p (Told.Shown (shown w c t r want) (is_fresh_on (after head w (by_agent c (Look t r want Got.Granted))) c (Row t r)))).left
       looked-goes t r want sought = record {
@@ -185,8 +190,8 @@ module _ (head : Head) (w : World) (c : Conn) where
           seen = looked-between p (shown w c t r want) (is_fresh_on v c (Row t r)) h
 
           freed : (freed_of qs ≡ None) ⊎ ((is_fresh_on v c (Row t r) ≡ true) × (freed_of qs ≡ sought_by p.left)) → FreesLooked v c qs
-          freed (inl n) = unfreed v c qs n
+          freed (inl n) u s e = unfreed v c qs n u s e
           freed (inr y) u s e =
-              let same = pair-first t u r s (sym (y.1 ∙ sought) ∙ e) in
+              let same = one-row t u r s (sym (y.1 ∙ sought) ∙ e) in
               subst (λ z. (v.last c ≡ Looked z s) × (is_fresh_on v c (Row z s) ≡ true)) same.0
               (subst (λ z. (v.last c ≡ Looked t z) × (is_fresh_on v c (Row t z) ≡ true)) same.1 (rw (eq-same c) refl, y.0))

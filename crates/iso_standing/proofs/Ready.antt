@@ -1,5 +1,5 @@
 -- What is told before an entry is made leaves in front what stood there, but for the undos that are done and a wait that was ended.
-use Rattle.std.proofs.Common.{◌≡◌, ◌⊎◌, inl, inr, ℕ, Bool, true, false, List, [], ◌∷◌, refl, sym, ◌∙◌, subst, Option, Some, None, if◌then◌else◌, pos}
+use Rattle.std.proofs.Common.{◌≡◌, ◌⊎◌, inl, inr, ℕ, Bool, true, false, List, [], ◌∷◌, refl, sym, ◌∙◌, ap, subst, Option, Some, None, if◌then◌else◌, pos}
 use Rattle.iso_conduct.proofs.Queues.{is_claim_next}
 use Rattle.iso_conduct.specs.Conduct.{has_left, quiet, quiet_back, quiet_claim, quieted}
 use Rattle.iso_conduct.specs.Parts.{Part, rolling_list}
@@ -132,7 +132,10 @@ module _ (w : World) (c : Conn) where
   module _ (r : ℕ) (rolling : phase w c ≡ Rolling) (doomed : w.doom c ≡ Some r) where
     claim-ended : (p : Point) (ps : List Part) → is_claim_next ps ≡ true → (quieted w c (with_left p ps)).left ≡ rolling_list r
     claim-ended p [] e = absurd (cc)
-    claim-ended p (Claims ∷ ps) e = rw (rolling, doomed) refl
+    claim-ended p (Claims ∷ ps) e = subst (λ o. (told_so (with_left p (Claims ∷ ps)) o).left ≡ rolling_list r) (sym told) refl
+      where
+        told : quiet_claim (phase w c) (w.doom c) ≡ Some (Told.Ended r)
+        told = ap (λ f. quiet_claim f (w.doom c)) rolling ∙ ap (quiet_claim Rolling) doomed
     claim-ended p (x ∷ ps) e = absurd (cc)
 
     rolls-twice : (p : Point) (ps : List Part) → RollsBack r ps → Rolled r (quieted w c (quieted w c (with_left p ps))).left

@@ -3,7 +3,6 @@ use Rattle.std.proofs.Common.{◌≡◌, ◌⊎◌, inl, inr, ℕ, Bool, true, f
 use Rattle.std.specs.Prelude.{is_none}
 use Rattle.iso_conduct.proofs.FrontsAlong.{goes-on, may-made}
 use Rattle.iso_conduct.proofs.Heard.{made-heard}
-use Rattle.iso_conduct.proofs.Open.{closing-by, eq-same}
 use Rattle.iso_conduct.proofs.PairedAlong.{IsTied, next_at}
 use Rattle.iso_conduct.proofs.Queues.{is_claim_next}
 use Rattle.iso_conduct.specs.Answers.{AreAnswers}
@@ -26,8 +25,7 @@ use Rattle.iso_sql.specs.declared.statement.Statement.{Statement}
 use Rattle.iso_sql.specs.declared.statement.Statement.TheVariants as st
 use Rattle.iso_standing.proofs.Between.{awaited_of, collapse_of, freed_of}
 use Rattle.iso_standing.proofs.Fronted.{Unrolled, listed-unrolled}
-use Rattle.iso_standing.proofs.Own.{FateIs, FreesLooked, GoesWith, act-made, awaits_table, unfreed}
-use Rattle.iso_standing.proofs.OwnActs.{readied-goes, rolled-goes}
+use Rattle.iso_standing.proofs.Own.{FateIs, FreesLooked, awaits_table}
 use Rattle.iso_standing.proofs.Ready.{IsQuieted, Readied, Rolled, RollsBack, ready-keeps, ready-rolled}
 use Rattle.iso_types.specs.declared.desk.Phase.{Phase}
 use Rattle.iso_types.specs.declared.desk.Phase.TheVariants.{Closing, Idle, Rolling, Running}
@@ -67,6 +65,14 @@ rolling-by false false false true s h = absurd (cc)
 rolling-by false false false false true h = absurd (cc)
 rolling-by false false false false false h = absurd (cc)
 
+closing-by : (e k d t s : Bool) → phase_of e k d t s ≡ Closing → k ≡ true
+closing-by true k d t s h = absurd (cc)
+closing-by false true d t s h = refl
+closing-by false false true t s h = absurd (cc)
+closing-by false false false true s h = absurd (cc)
+closing-by false false false false true h = absurd (cc)
+closing-by false false false false false h = absurd (cc)
+
 none-is : {A : Type 0} (o : Option A) → is_some o ≡ false → o ≡ None
 none-is None e = refl
 none-is (Some x) e = absurd (cc)
@@ -87,6 +93,10 @@ module _ (w : World) (c : Conn) where
   is-doomed h =
       let b = rolling-by (w.ended c) (w.closing c) (is_some (w.doom c)) (is_waiting w.waits c) (is_none (w.line c)) h in
       (b.0, some-is (w.doom c) b.1)
+
+  -- one that closes
+  pub is-closing : phase w c ≡ Closing → w.closing c ≡ true
+  is-closing h = closing-by (w.ended c) (w.closing c) (is_some (w.doom c)) (is_waiting w.waits c) (is_none (w.line c)) h
 
 -- ---- the point from which an entry is made
 

@@ -1,9 +1,8 @@
 -- An own entry leaves it so that what stands in front goes with the world.
 use Rattle.std.proofs.Common.{◌≡◌, ◌⊎◌, inl, inr, ℕ, Bool, true, false, List, [], ◌∷◌, refl, sym, ◌∙◌, ap, subst, Option, Some, None, option_map, is_some, if◌then◌else◌}
-use Rattle.std.specs.Prelude.{is_none}
 use Rattle.iso_conduct.proofs.FrontsAlong.{goes-on, may-made}
 use Rattle.iso_conduct.proofs.Heard.{made-heard}
-use Rattle.iso_conduct.proofs.Open.{closing-by, eq-same}
+use Rattle.iso_conduct.proofs.Open.{eq-same}
 use Rattle.iso_conduct.specs.Answers.{AreAnswers}
 use Rattle.iso_conduct.specs.Conduct.{IsNext, MayIn, Rolls, closing_act, ends, heard, made, moved_by, moved_in, ready, stops_for_memory}
 use Rattle.iso_conduct.specs.Points.{Point, told_all}
@@ -17,12 +16,11 @@ use Rattle.iso_history.specs.World.{World}
 use Rattle.iso_history.specs.declared.entry.Act.{Act}
 use Rattle.iso_history.specs.declared.entry.Act.TheVariants.{Commit, Reply, Rollback, Stopped, Undo}
 use Rattle.iso_history.specs.declared.entry.Who.TheVariants.{Agent}
-use Rattle.iso_queue.specs.Queues.{is_waiting}
 use Rattle.iso_script.specs.declared.script.Line.{Line}
 use Rattle.iso_standing.proofs.Between.{awaited_of, collapse_of, freed_of}
 use Rattle.iso_standing.proofs.Own.{FateIs, FreesLooked, GoesWith, act-made, awaits_table, unfreed}
 use Rattle.iso_standing.proofs.OwnActs.{readied-goes, rolled-goes}
-use Rattle.iso_standing.proofs.Stands.{StandsAt, is-doomed, is-spared, left_at, ready-is, ready-rolls}
+use Rattle.iso_standing.proofs.Stands.{StandsAt, is-closing, is-doomed, is-spared, left_at, ready-is, ready-rolls}
 use Rattle.iso_types.specs.declared.desk.Phase.{Phase}
 use Rattle.iso_types.specs.declared.desk.Phase.TheVariants.{Closing, Idle, Rolling, Running}
 use Rattle.iso_types.specs.declared.head.Head.{Head}
@@ -54,7 +52,7 @@ module _ (head : Head) (w : World) (c : Conn) where
   ends-fate Commit e al k = subst (λ o. FateIs o []) (sym (is-spared w c (inl al.0)).1) (inl tt)
   ends-fate (Rollback code reason) e al k = rw (eq-same c) (inl tt)
   ends-fate Act.Ended e al k =
-      absurd (never (sym (closing-by (w.ended c) (w.closing c) (is_some (w.doom c)) (is_waiting w.waits c) (is_none (w.line c)) al.0) ∙ k))
+      absurd (never (sym (is-closing w c al.0) ∙ k))
   ends-fate (Stopped cause) e al k = absurd (never (sym closes ∙ k))
     where
       closes : closing_by w.closing (Agent c) (Stopped cause) c ≡ true
@@ -75,7 +73,7 @@ module _ (head : Head) (w : World) (c : Conn) where
   nothing-stands a d l f = record {
     collapse = ap (option_map (λ q. q.0)) (due-own a ∙ d);
     awaited = ap awaits_table (last-own a) ∙ l;
-    frees = unfreed _ c [] refl;
+    frees = unfreed (after head w (by_agent c a)) c [] refl;
     fate = f;
   }
 
@@ -136,9 +134,9 @@ module _ (head : Head) (lines : List Line) (w : World) (c : Conn) (a : Act) wher
     where
       spared : (f : Phase) → phase w c ≡ f → (f ≡ Running) ⊎ (f ≡ Phase.Waiting) → (f ≡ Rolling → ⊥) → (f ≡ Closing → ⊥) → MayIn f head lines w c o a
           → ends a ≡ false → (p : Point) → ready head lines w c o ≡ Some p → GoesWith head w c a (told_all p (heard w next c a)).left
-      spared f is either still open m e p r =
+      spared f is either still shut m e p r =
           let k = is-spared w c (subst (λ z. (z ≡ Running) ⊎ (z ≡ Phase.Waiting)) (sym is) either) in
-          spared-goes o s (λ q. still (sym is ∙ q)) k.0 k.1 e p r (may-made head lines w c f o a (goes-on a e) open m p r)
+          spared-goes o s (λ q. still (sym is ∙ q)) k.0 k.1 e p r (may-made head lines w c f o a (goes-on a e) shut m p r)
 
       by : (f : Phase) → phase w c ≡ f → MayIn f head lines w c o a → StandsAt next c (moved_in f head lines w next c o a)
       by Running is m = moved-stands o al (spared Running is (inl refl) (λ q. cc) (λ q. cc) m) (λ e r. no-next (ready head lines w c o) r e m) (ends a) refl
@@ -148,7 +146,7 @@ module _ (head : Head) (lines : List Line) (w : World) (c : Conn) (a : Act) wher
           moved-stands o al (λ e p r. doomed-goes o s is k.0 k.1.0 k.1.1 e p r (may-made head lines w c Rolling o a (goes-on a e) (λ q. cc) m p r))
           (λ e r. no-rolls (ready head lines w c o) r m) (ends a) refl
       by Closing is m =
-          let closes = closing-by (w.ended c) (w.closing c) (is_some (w.doom c)) (is_waiting w.waits c) (is_none (w.line c)) is in
+          let closes = is-closing w c is in
           let n = closing-due head w c (last_record w c) in
           nothing-stands head w c a (subst (λ z. due_of z (w.last c) ≡ None) m n.0) (subst (λ z. awaits_table (last_of z) ≡ None) m n.1)
           (λ k. absurd (never (sym (stays-closing w.closing c a closes) ∙ k)))

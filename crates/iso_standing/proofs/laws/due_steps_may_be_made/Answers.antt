@@ -1,5 +1,4 @@
-use Rattle.iso_standing.proofs.Fronted.{told-fronted}
-use Rattle.iso_standing.proofs.Between.{looked-between}
+use Rattle.iso_standing.proofs.StandsOwn.{own-stands}
 use Rattle.iso_standing.proofs.laws.due_steps_may_be_made.Goals as goal
 
 pub returns : goal.returns
