@@ -5,3 +5,6 @@ pub mod Own
 pub mod OwnActs
 pub mod Stands
 pub mod StandsOwn
+pub mod StandsOthers
+pub mod StandsAlong
+pub mod AtReady

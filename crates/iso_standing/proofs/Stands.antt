@@ -73,11 +73,11 @@ closing-by false false false true s h = absurd (cc)
 closing-by false false false false true h = absurd (cc)
 closing-by false false false false false h = absurd (cc)
 
-none-is : {A : Type 0} (o : Option A) → is_some o ≡ false → o ≡ None
+pub none-is : {A : Type 0} (o : Option A) → is_some o ≡ false → o ≡ None
 none-is None e = refl
 none-is (Some x) e = absurd (cc)
 
-some-is : {A : Type 0} (o : Option A) → is_some o ≡ true → (x : A) × (o ≡ Some x)
+pub some-is : {A : Type 0} (o : Option A) → is_some o ≡ true → (x : A) × (o ≡ Some x)
 some-is None e = absurd (cc)
 some-is (Some x) e = (x, refl)
 
