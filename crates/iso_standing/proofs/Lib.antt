@@ -8,3 +8,4 @@ pub mod StandsOwn
 pub mod StandsOthers
 pub mod StandsAlong
 pub mod AtReady
+pub mod StepsRun
