@@ -9,3 +9,4 @@ pub mod StandsOthers
 pub mod StandsAlong
 pub mod AtReady
 pub mod StepsRun
+pub mod StepsUndo

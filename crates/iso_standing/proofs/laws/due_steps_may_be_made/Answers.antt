@@ -1,4 +1,4 @@
-use Rattle.iso_standing.proofs.StepsRun.{back-at}
+use Rattle.iso_standing.proofs.StepsUndo.{rollback-at}
 use Rattle.iso_standing.proofs.laws.due_steps_may_be_made.Goals as goal
 
 pub returns : goal.returns
