@@ -1,5 +1,5 @@
 -- What comes between the parts of a statement stands in front of them: a Claim, a Collapse at once or behind a Claim, a Free.
-use Rattle.std.proofs.Common.{◌≡◌, ◌⊎◌, inl, inr, ℕ, Bool, true, false, List, [], ◌∷◌, ◌++◌, refl, Option, Some, None, Ok, Err, Result, if◌then◌else◌, ℤ, pos}
+use Rattle.std.proofs.Common.{◌≡◌, ◌⊎◌, inl, inr, ℕ, Bool, true, false, List, [], ◌∷◌, ◌++◌, refl, Option, Some, None, Ok, Err, Result, if◌then◌else◌, pos}
 use Rattle.iso_conduct.specs.Parts.{Part, listed, new_row, scan}
 use Rattle.iso_conduct.specs.Parts.Part.{Asks, Changes, Claims, Collapses, EntryLook, Frees, IndexScan, Leaves, NewRow, Refuses, Replies, RowUpdate, TableScan, Undos}
 use Rattle.iso_conduct.specs.Points.{Point, behind, change_part, change_parts, ending, fault_code, found_rows, freeing, frees, is_kept, looked_by, opened_out, past_look, queued_up, standing_at, told_point}
@@ -21,17 +21,12 @@ use Rattle.iso_types.specs.declared.value.Rid.{Rid}
 use Rattle.iso_types.specs.declared.value.TableId.{TableId}
 use Rattle.iso_types.specs.declared.value.Value.{Value}
 
--- a code with which a statement refuses itself
-abbrev pub IsOwnCode : ℤ → Type 0
-IsOwnCode code = (code ≡ minus 407) ⊎ ((code ≡ minus 802) ⊎ (code ≡ minus 880))
-
 -- a part of a statement's own list, that ends no unit by a Rollback
 abbrev pub IsStep : Part → Type 0
 IsStep Claims = ⊥
 IsStep (Collapses t) = ⊥
 IsStep (Frees t r) = ⊥
 IsStep (Leaves code reason) = ⊥
-IsStep (Refuses code) = IsOwnCode code
 IsStep _ = Unit {0}
 
 -- all are
@@ -92,7 +87,7 @@ new-steps : (head : Head) (t : TableId) (row : List Value) → IsStep (new_row h
 new-steps head t row = go (has_null (columns_of head t) row)
   where
     go : (b : Bool) → IsStep (if b then Refuses (minus 407) else NewRow t row)
-    go true = inl refl
+    go true = tt
     go false = tt
 
 pub listed-unrolled : (head : Head) (c : Conn) (set : Setting) (s : Statement) → Unrolled (listed head c set s)
@@ -115,8 +110,7 @@ change-steps (st.Update u sets cond level) columns t k = go (assigned columns se
   where
     go : (x : Result (List Value) Fault) → IsStep (elim x [ Ok row ↦ RowUpdate t k.0 row | Err fault ↦ Refuses (fault_code fault) ])
     go (Ok row) = tt
-    go (Err Fault.Overflow) = inr (inl refl)
-    go (Err Fault.NullFault) = inl refl
+    go (Err fault) = tt
 change-steps s columns t k = tt
 
 changes-steps : (s : Statement) (columns : List Column) (t : TableId) (ks : List (Rid × List Value)) → AreSteps (change_parts s columns t ks)
@@ -195,4 +189,4 @@ told-fronted p (Told.At key r) e h = steps-fronted _ (standing-steps key r p.lef
 told-fronted p (Told.Undone true) e h = steps-fronted p.left h
 told-fronted p (Told.Undone false) e h = steps-fronted _ (ending-steps p.left h)
 told-fronted p (Told.Floor (Some n)) e h = (tt, rest-steps p.left h)
-told-fronted p (Told.Floor None) e h = (inr (inr refl), tt)
+told-fronted p (Told.Floor None) e h = (tt, tt)

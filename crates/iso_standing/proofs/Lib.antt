@@ -10,3 +10,10 @@ pub mod StandsAlong
 pub mod AtReady
 pub mod StepsRun
 pub mod StepsUndo
+pub mod Writing
+pub mod SoundLines
+pub mod Hearing
+pub mod LocksAlong
+pub mod DueParts
+pub mod TableLocks
+pub mod Making

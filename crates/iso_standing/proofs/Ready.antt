@@ -103,7 +103,7 @@ module _ (w : World) (c : Conn) where
       where
         go : (o : Option ℕ) → IsQuieted (Backs name ∷ ps) (told_so (with_left p (Backs name ∷ ps)) (quiet_back o)).left
         go (Some at) = same (Backs name ∷ ps)
-        go None = record { collapse = refl; awaited = refl; freed = refl; claims = refl; parts = λ h. inl (inl (inr (inr refl), tt)) }
+        go None = record { collapse = refl; awaited = refl; freed = refl; claims = refl; parts = λ h. inl (inl (tt, tt)) }
     quiet-keeps (x ∷ ps) = same (x ∷ ps)
 
   -- the point from which an entry is made, of a connection that need not roll back

@@ -78,8 +78,11 @@ module _ (head : Head) (w : World) (c : Conn) where
 
       go : (b : Bool) → conn_eq c found.conn ≡ b → Fares (Victim cycle)
       go false k = inl (subst (λ o. after_victim o ≡ w.doom c) (sym found.is_victim) (rw k refl))
-      go true k = inr (2, subst (λ o. after_victim o ≡ Some 2) (sym found.is_victim) (rw k refl),
-          subst (λ x. is_waiting w.waits x ≡ true) (sym (eq-is c found.conn k)) found.waits)
+      go true k = inr (
+        2,
+        subst (λ o. after_victim o ≡ Some 2) (sym found.is_victim) (rw k refl),
+        subst (λ x. is_waiting w.waits x ≡ true) (sym (eq-is c found.conn k)) found.waits,
+      )
 
   -- the dispatcher dooms only who waits
   fares : (a : Act) → ByDispatcher head w a → Fares a

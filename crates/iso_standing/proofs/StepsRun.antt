@@ -1,10 +1,10 @@
 -- The steps of a statement that runs: no Collapse is due before them, and what they end or give back is there.
-use Rattle.std.proofs.Common.{◌≡◌, ◌⊎◌, inl, inr, ℕ, Bool, true, false, List, [], ◌∷◌, refl, sym, ◌∙◌, ap, subst, Option, Some, None, option_map, ℤ, if◌then◌else◌}
+use Rattle.std.proofs.Common.{◌≡◌, ◌⊎◌, inl, inr, ℕ, Bool, true, false, List, [], ◌∷◌, refl, sym, ◌∙◌, ap, subst, Option, Some, None, option_map}
 use Rattle.std.specs.Prelude.{is_some}
 use Rattle.iso_conduct.proofs.Queues.{is_claim_next}
 use Rattle.iso_conduct.specs.Conduct.{Conduct, point, quiet, quiet_back, ready}
-use Rattle.iso_conduct.specs.Parts.{Part, rolling_list}
-use Rattle.iso_conduct.specs.Parts.Part.{Backs, Claims, Collapses, Frees, Leaves, Refuses, Undos}
+use Rattle.iso_conduct.specs.Parts.{Part}
+use Rattle.iso_conduct.specs.Parts.Part.{Claims, Collapses, Frees}
 use Rattle.iso_conduct.specs.Points.{Haul, Point, due, due_by}
 use Rattle.iso_conduct.specs.declared.moves.Move.{Move}
 use Rattle.iso_history.specs.After.{world}
@@ -13,14 +13,12 @@ use Rattle.iso_history.specs.Marks.{mark_of}
 use Rattle.iso_history.specs.Phases.{phase, waits_grantable}
 use Rattle.iso_history.specs.World.{World}
 use Rattle.iso_history.specs.World.Last.{Looked}
-use Rattle.iso_history.specs.Writes.{is_refusal, minus}
 use Rattle.iso_history.specs.declared.entry.Entry.{Entry}
 use Rattle.iso_script.specs.declared.script.Line.{Line}
 use Rattle.iso_standing.proofs.AtReady.{RollsAt, RunsAt, WaitsAt, quiet-at, stage-at, undue-is}
 use Rattle.iso_standing.proofs.Between.{collapse_of, freed_of}
-use Rattle.iso_standing.proofs.Fronted.{IsOwnCode}
 use Rattle.iso_standing.proofs.Own.{row_at}
-use Rattle.iso_standing.proofs.Ready.{Readied, Rolled}
+use Rattle.iso_standing.proofs.Ready.{Rolled}
 use Rattle.iso_standing.specs.Going.{GoesOn}
 use Rattle.iso_types.specs.declared.desk.Phase.TheVariants.{Running}
 use Rattle.iso_types.specs.declared.head.Head.{Head}
@@ -38,9 +36,6 @@ asks_to_run (Move.RollbackEnd code reason) = false
 asks_to_run _ = true
 
 -- ---- what the due step says of what is left
-
-never : {A : Type 0} (f : A → Bool) (a b : A) → a ≡ b → f a ≡ true → f b ≡ false → ⊥
-never f a b e s t = let q : true ≡ false = sym s ∙ (ap f e ∙ t) in cc
 
 run-collapse : (kept : Haul) (ps : List Part) → asks_to_run (due_by kept ps) ≡ true → collapse_of ps ≡ None
 run-collapse kept [] e = refl
@@ -71,20 +66,6 @@ collapse-next : (kept : Haul) (ps : List Part) (t : TableId) → due_by kept ps 
 collapse-next kept [] t e = absurd (cc)
 collapse-next kept (Collapses u ∷ ps) t e = let same : u ≡ t = cc in ap (λ z. Some z) same
 collapse-next kept (x ∷ ps) t e = absurd (cc)
-
--- ---- own refusals
-
-own-refusal : (head : Head) (w : World) (c : Conn) (code : ℤ) → IsOwnCode code → is_refusal head w c code ≡ true
-own-refusal head w c code (inl e) = subst (λ z. is_refusal head w c z ≡ true) (sym e) refl
-own-refusal head w c code (inr (inl e)) = subst (λ z. is_refusal head w c z ≡ true) (sym e) refl
-own-refusal head w c code (inr (inr e)) = subst (λ z. is_refusal head w c z ≡ true) (sym e) refl
-
-refuse-own : (w : World) (c : Conn) (kept : Haul) (ps : List Part) (code : ℤ) → due_by kept ps ≡ Move.Refuse code → Readied w c ps → IsOwnCode code
-refuse-own w c kept [] code e h = absurd (cc)
-refuse-own w c kept (Refuses own ∷ ps) code e (inl (inl h)) = let same : own ≡ code = cc in subst IsOwnCode same h.0
-refuse-own w c kept (Refuses own ∷ ps) code e (inl (inr h)) = absurd (cc)
-refuse-own w c kept (Refuses own ∷ ps) code e (inr h) = let q = h.0 in absurd (cc)
-refuse-own w c kept (x ∷ ps) code e h = absurd (cc)
 
 -- the mark of a Back is there
 has-mark : (o : Option ℕ) → quiet_back o ≡ None → is_some o ≡ true
@@ -153,16 +134,10 @@ module _ (head : Head) (lines : List Line) (es : List Entry) (c : Conn) (g : Gro
       let f = (running-at run).frees t r (freed-next p.kept p.left t r e) in
       (runs-at run, f.0, f.1)
 
-  -- a refusal is one that no step finds
-  pub refuse-at : (code : ℤ) → due p ≡ Move.Refuse code → Runs now c × (is_refusal head now c code ≡ true)
-  refuse-at code e =
-      let run = ap asks_to_run e in
-      (runs-at run, own-refusal head now c code (refuse-own now c p.kept p.left code e (running-at run).parts))
-
   -- the mark of a Back is there
   pub back-at : (name : List ℕ) → due p ≡ Move.Back name → Runs now c × (is_some (mark_of (now.marks c) name) ≡ true)
   back-at name e = (
     runs-at (ap asks_to_run e),
     has-mark (mark_of (now.marks c) name)
-    (subst (λ m. quiet now c m ≡ None) e (quiet-at head lines now c (point head lines es c) p is)),
+        (subst (λ m. quiet now c m ≡ None) e (quiet-at head lines now c (point head lines es c) p is)),
   )
