@@ -123,7 +123,8 @@ module _ (head : Head) (w : World) (c : Conn) (spared : w.doom c ≡ None) where
   undo-goes : (p : Point) (a : Act) → act_of head w c [] [] (due_by p.kept (Undos 0 ∷ Leaves (pos 0) 0 ∷ [])) ≡ a
       → GoesAt (with_left p (Undos 0 ∷ Leaves (pos 0) 0 ∷ [])) a
   undo-goes p a is = subst (GoesAt (with_left p (Undos 0 ∷ Leaves (pos 0) 0 ∷ []))) is
-      (bare-goes head w c spared (Undo _) (Undos 0 ∷ Leaves (pos 0) 0 ∷ []) refl refl refl (record { collapse = refl; awaited = refl; freed = refl }) (inr refl))
+      (bare-goes head w c spared (Undo _) (Undos 0 ∷ Leaves (pos 0) 0 ∷ []) refl refl refl
+      (record { collapse = refl; awaited = refl; freed = refl }) (inr refl))
 
   -- any parts of a connection that need not roll back
   pub readied-goes : (p : Point) (ps : List Part) → Readied w c ps → awaits_table (w.last c) ≡ awaited_of ps → (a : Act) → ends a ≡ false

@@ -130,7 +130,8 @@ module _ (head : Head) (lines : List Line) (w : World) (c : Conn) where
       go (Some s) k =
           let q = start_point head c (w.setting c) (w.floor c) s in
           let first = listed-first head c (w.setting c) s in
-          let kept : IsQuieted w c q.left p.left = subst (λ z. IsQuieted w c q.left z.left) (one-point (λ x. quieted w c (quieted w c x)) q p k) (ready-keeps w c still q) in
+          let same = one-point (λ x. quieted w c (quieted w c x)) q p k in
+          let kept : IsQuieted w c q.left p.left = subst (λ z. IsQuieted w c q.left z.left) same (ready-keeps w c still q) in
           record {
             collapse = kept.collapse ∙ first.collapse;
             awaited = kept.awaited ∙ first.awaited;
