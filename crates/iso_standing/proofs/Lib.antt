@@ -17,3 +17,13 @@ pub mod LocksAlong
 pub mod DueParts
 pub mod TableLocks
 pub mod Making
+pub mod RowNeeds
+pub mod RowTold
+pub mod RowsSeen
+pub mod RowsLocked
+pub mod RowsBegin
+pub mod RowsMade
+pub mod RowsHeard
+pub mod RowsAlong
+pub mod RowsHold
+pub mod RowsAt

@@ -1,5 +1,5 @@
 -- The step that is due of a connection which can go on may be made.
-use Rattle.std.proofs.Common.{◌≡◌, true, ◌&&◌, ◌||◌, List, [], refl, sym, ap, subst, Some, is_some, IsTrue}
+use Rattle.std.proofs.Common.{◌≡◌, inl, inr, true, List, [], refl, ap, Some}
 use Rattle.iso_conduct.specs.Conduct.{Conduct, point, ready}
 use Rattle.iso_conduct.specs.Points.{Point, due, row_due}
 use Rattle.iso_conduct.specs.Standing.{MayGoOn, MayMake}
@@ -7,57 +7,38 @@ use Rattle.iso_conduct.specs.declared.moves.Move.{Move}
 use Rattle.iso_history.proofs.pending.Conns.{and-both}
 use Rattle.iso_history.specs.After.{world}
 use Rattle.iso_history.specs.Legal.{Ground, Runs}
-use Rattle.iso_history.specs.Requests.{is_there}
-use Rattle.iso_history.specs.Versions.{view}
 use Rattle.iso_history.specs.World.{World}
 use Rattle.iso_history.specs.Writes.{may_change, may_write}
 use Rattle.iso_history.specs.declared.entry.Entry.{Entry}
-use Rattle.iso_modes.specs.declared.Mode.TheVariants.{X}
-use Rattle.iso_queue.specs.Locks.{holds_at_least, is_covered}
 use Rattle.iso_script.specs.Sound.{IsSound}
 use Rattle.iso_script.specs.declared.script.Script.{Script}
+use Rattle.iso_standing.proofs.RowsAt.{Changes, change-at, row-there-at, update-fits-at}
 use Rattle.iso_standing.proofs.StepsRun.{asks_to_run, back-at, claim-at, collapse-at, free-at, runs-at}
 use Rattle.iso_standing.proofs.StepsUndo.{rollback-at, undo-at}
-use Rattle.iso_standing.proofs.TableLocks.{ask-at, delete-table-at, insert-at, look-at, no-end-at, no-key-at, no-next-at, refuse-at, row-mode-at, table-ask-at, update-table-at}
+use Rattle.iso_standing.proofs.TableLocks.{ask-at, delete-table-at, insert-at, look-at, no-end-at, no-key-at, no-next-at, refuse-at, table-ask-at, update-table-at}
 use Rattle.iso_standing.specs.Going.{GoesOn}
-use Rattle.iso_types.specs.Head.{row_fits}
-use Rattle.iso_types.specs.declared.head.Head.{Head}
 use Rattle.iso_types.specs.declared.value.Conn.{Conn}
 use Rattle.iso_types.specs.declared.value.Name.TheVariants.{End, Key, Row, Table}
 use Rattle.iso_types.specs.declared.value.Rid.{Rid}
 use Rattle.iso_types.specs.declared.value.TableId.{TableId}
 
--- X is held on the row, or covered, and the connection sees a row there
-abbrev pub SeesLocked : Head → World → Conn → TableId → Rid → Type 0
-SeesLocked head w c t r =
-    ((is_covered head w.holds c (Row t r) X || holds_at_least w.holds c (Row t r) X) ≡ true) × (is_some (view w c t r) ≡ true)
-
--- the rows that are to be locked or changed: each is there, locked before its change, and its new row fits
-pub record RowsReady (head : Head) (w : World) (c : Conn) (p : Point) : Type 0 where
-  pub there : (t : TableId) (r : Rid) → due p ≡ Move.Lock (Row t r) X → is_there head w (Row t r) ≡ true
-  pub updated : (t : TableId) (r : Rid) → due p ≡ Move.Update t r → SeesLocked head w c t r
-  pub deleted : (t : TableId) (r : Rid) → due p ≡ Move.Delete t r → SeesLocked head w c t r
-  pub fits : (t : TableId) (r : Rid) → due p ≡ Move.Update t r → row_fits head t (row_due p) ≡ true
-
 module _ (script : Script) (es : List Entry) (c : Conn) (p : Point) (sound : IsSound script) (plain : script.head.indexes ≡ []) (g : Ground script.head es)
     (k : Conduct script.head script.lines es c) (able : GoesOn (world script.head es) c)
-    (is : ready script.head script.lines (world script.head es) c (point script.head script.lines es c) ≡ Some p)
-    (rows : RowsReady script.head (world script.head es) c p) where
+    (is : ready script.head script.lines (world script.head es) c (point script.head script.lines es c) ≡ Some p) where
   abbrev here : World
   here = world script.head es
 
   run : asks_to_run (due p) ≡ true → Runs here c
   run e = runs-at script.head script.lines es c g k able p is e
 
-  may-change : (t : TableId) (r : Rid) → may_write here c t ≡ true → SeesLocked script.head here c t r → may_change script.head here c t r ≡ true
+  may-change : (t : TableId) (r : Rid) → may_write here c t ≡ true → Changes script.head here c t r → may_change script.head here c t r ≡ true
   may-change t r w s = and-both _ _ w (and-both _ _ s.0 s.1)
 
   may-make : (m : Move) → due p ≡ m → MayMake script.head here c (row_due p) m
   may-make (Move.Lock (Table t) m) e = (run (ap asks_to_run e), table-ask-at script es c p sound g k is t m e)
   may-make (Move.Lock (Row t r) m) e =
       let runs = run (ap asks_to_run e) in
-      let x = row-mode-at script es c p sound g k is runs.0 t r m e in
-      (runs, ask-at script es c p sound g k is runs.0 (Row t r) m e (rows.there t r (subst (λ z. due p ≡ Move.Lock (Row t r) z) x e)))
+      (runs, ask-at script es c p sound g k is runs.0 (Row t r) m e (row-there-at script es c p sound plain g k is t r m e))
   may-make (Move.Lock (Key i v) m) e = absurd (no-key-at script es c p sound g k is i v m e)
   may-make (Move.Lock (End i) m) e = absurd (no-end-at script es c p sound g k is i m e)
   may-make Move.Claim e = claim-at script.head script.lines es c g k able p is e
@@ -71,10 +52,11 @@ module _ (script : Script) (es : List Entry) (c : Conn) (p : Point) (sound : IsS
       (runs, may.0, may.1)
   may-make (Move.Update t r) e =
       let runs = run (ap asks_to_run e) in
-      (runs, may-change t r (update-table-at script es c p sound g k is runs.0 t r e) (rows.updated t r e), rows.fits t r e)
+      (runs, may-change t r (update-table-at script es c p sound g k is runs.0 t r e) (change-at script es c p sound plain g k is runs.0 t r (inl e)),
+      update-fits-at script es c p sound plain g k is t r e)
   may-make (Move.Delete t r) e =
       let runs = run (ap asks_to_run e) in
-      (runs, may-change t r (delete-table-at script es c p sound g k is runs.0 t r e) (rows.deleted t r e))
+      (runs, may-change t r (delete-table-at script es c p sound g k is runs.0 t r e) (change-at script es c p sound plain g k is runs.0 t r (inr e)))
   may-make (Move.Refuse code) e = (run (ap asks_to_run e), refuse-at script es c p sound g k is code e)
   may-make (Move.Undo floor) e = undo-at script.head script.lines es c g k able p is floor e
   may-make (Move.Mark name) e = run (ap asks_to_run e)
