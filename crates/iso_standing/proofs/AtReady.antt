@@ -1,6 +1,6 @@
 -- How a connection that can go on stands at the point from which its next entry is made: it runs, waits and may have its lock, or rolls back.
 use Rattle.std.proofs.Common.{◌≡◌, ◌⊎◌, inl, inr, ℕ, Bool, true, false, ◌&&◌, ◌||◌, List, [], ◌∷◌, refl, sym, ◌∙◌, ap, subst, Option, Some, None, option_map}
-use Rattle.iso_conduct.proofs.PairedAlong.{next_at, running-claims-not, waiting-claims}
+use Rattle.iso_conduct.proofs.PairedAlong.{running-claims-not, waiting-claims}
 use Rattle.iso_conduct.proofs.Queues.{is_claim_next}
 use Rattle.iso_conduct.proofs.Quiet.{quiet-twice}
 use Rattle.iso_conduct.specs.Conduct.{Conduct, opened, point, quiet, quieted, ready}
@@ -15,7 +15,7 @@ use Rattle.iso_queue.specs.Queues.{is_grantable}
 use Rattle.iso_script.specs.declared.script.Line.{Line}
 use Rattle.iso_standing.proofs.Between.{collapse_of}
 use Rattle.iso_standing.proofs.Own.{FateIs, FreesLooked}
-use Rattle.iso_standing.proofs.Ready.{IsQuieted, Readied, Rolled, RollsBack}
+use Rattle.iso_standing.proofs.Ready.{Readied, Rolled, RollsBack}
 use Rattle.iso_standing.proofs.Stands.{StandsAt, is-doomed, is-spared, left_at, ready-is, ready-rolls}
 use Rattle.iso_standing.proofs.StandsAlong.{stands}
 use Rattle.iso_standing.proofs.StandsOthers.{next-left}
@@ -24,7 +24,6 @@ use Rattle.iso_types.specs.declared.desk.Phase.{Phase}
 use Rattle.iso_types.specs.declared.desk.Phase.TheVariants.{Closing, Idle, Rolling, Running}
 use Rattle.iso_types.specs.declared.head.Head.{Head}
 use Rattle.iso_types.specs.declared.value.Conn.{Conn}
-use Rattle.iso_types.specs.declared.value.TableId.{TableId}
 
 -- it runs: what stands in front goes with the world, and is no Claim
 pub record RunsAt (w : World) (c : Conn) (p : Point) : Type 0 where

@@ -1,8 +1,8 @@
 -- What stands in front of a statement's own parts after an answer: the table of a Collapse, the row of a Free.
-use Rattle.std.proofs.Common.{◌≡◌, ◌⊎◌, inl, inr, ℕ, Bool, true, false, List, [], ◌∷◌, ◌++◌, refl, sym, ◌∙◌, ap, Option, Some, None, if◌then◌else◌}
+use Rattle.std.proofs.Common.{◌≡◌, ◌⊎◌, inl, inr, Bool, true, false, List, [], ◌∷◌, ◌++◌, refl, Option, Some, None, if◌then◌else◌}
 use Rattle.iso_conduct.specs.Parts.{Part}
 use Rattle.iso_conduct.specs.Parts.Part.{Asks, Claims, Collapses, EntryLook, Frees, Leaves, Replies, TableScan}
-use Rattle.iso_conduct.specs.Points.{Point, behind, ending, freeing, frees, is_kept, looked_by, opened_out, past_look, queued_up, standing_at, told_point}
+use Rattle.iso_conduct.specs.Points.{Point, behind, ending, freeing, frees, is_kept, looked_by, past_look, queued_up, told_point}
 use Rattle.iso_conduct.specs.declared.moves.Told.{Told}
 use Rattle.iso_standing.proofs.Fronted.{AreSteps, BehindClaim, opened-steps, past-steps, rest-steps, standing-steps}
 use Rattle.iso_types.specs.declared.value.Rid.{Rid}

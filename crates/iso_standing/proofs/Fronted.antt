@@ -1,5 +1,5 @@
 -- What comes between the parts of a statement stands in front of them: a Claim, a Collapse at once or behind a Claim, a Free.
-use Rattle.std.proofs.Common.{◌≡◌, ◌⊎◌, inl, inr, ℕ, Bool, true, false, List, [], ◌∷◌, ◌++◌, refl, Option, Some, None, Ok, Err, Result, if◌then◌else◌, pos}
+use Rattle.std.proofs.Common.{◌≡◌, ◌⊎◌, inl, inr, Bool, true, false, List, [], ◌∷◌, ◌++◌, refl, Option, Some, None, Ok, Err, Result, if◌then◌else◌, pos}
 use Rattle.iso_conduct.specs.Parts.{Part, listed, new_row, scan}
 use Rattle.iso_conduct.specs.Parts.Part.{Asks, Changes, Claims, Collapses, EntryLook, Frees, IndexScan, Leaves, NewRow, Refuses, Replies, RowUpdate, TableScan, Undos}
 use Rattle.iso_conduct.specs.Points.{Point, behind, change_part, change_parts, ending, fault_code, found_rows, freeing, frees, is_kept, looked_by, opened_out, past_look, queued_up, standing_at, told_point}

@@ -51,9 +51,11 @@ module _ (script : Script) (es : List Entry) (c : Conn) (p : Point) (sound : IsS
       let may = insert-at script es c p sound g k is runs.0 t e in
       (runs, may.0, may.1)
   may-make (Move.Update t r) e =
-      let runs = run (ap asks_to_run e) in
-      (runs, may-change t r (update-table-at script es c p sound g k is runs.0 t r e) (change-at script es c p sound plain g k is runs.0 t r (inl e)),
-      update-fits-at script es c p sound plain g k is t r e)
+      let runs = run (ap asks_to_run e) in (
+        runs,
+        may-change t r (update-table-at script es c p sound g k is runs.0 t r e) (change-at script es c p sound plain g k is runs.0 t r (inl e)),
+        update-fits-at script es c p sound plain g k is t r e,
+      )
   may-make (Move.Delete t r) e =
       let runs = run (ap asks_to_run e) in
       (runs, may-change t r (delete-table-at script es c p sound g k is runs.0 t r e) (change-at script es c p sound plain g k is runs.0 t r (inr e)))

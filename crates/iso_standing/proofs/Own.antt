@@ -1,22 +1,21 @@
 -- What an own entry that goes on makes of the Collapse that is due, of its last entry and of its doom, as its parts have it in front.
-use Rattle.std.proofs.Common.{◌≡◌, ◌⊎◌, inl, inr, ℕ, Bool, true, false, List, [], ◌∷◌, refl, sym, ◌∙◌, ap, subst, Option, Some, None, option_map, if◌then◌else◌, pos}
+use Rattle.std.proofs.Common.{◌≡◌, ◌⊎◌, inl, inr, ℕ, Bool, true, false, List, [], ◌∷◌, refl, sym, ◌∙◌, ap, subst, Option, Some, None, option_map, if◌then◌else◌}
 use Rattle.std.specs.Option.{option_map_or}
 use Rattle.std.specs.Prelude.{nat_lt}
 use Rattle.iso_conduct.proofs.Open.{eq-same}
-use Rattle.iso_conduct.specs.Answers.{AreAnswers, answers}
-use Rattle.iso_conduct.specs.Conduct.{ends, heard, made}
+use Rattle.iso_conduct.specs.Answers.{answers}
+use Rattle.iso_conduct.specs.Conduct.{ends, made}
 use Rattle.iso_conduct.specs.Outcomes.{act_of}
 use Rattle.iso_conduct.specs.Parts.{Part, rolling_list}
-use Rattle.iso_conduct.specs.Parts.Part.{Claims, Collapses, EntryLook, Frees, Leaves, TableScan, Undos}
-use Rattle.iso_conduct.specs.Points.{Haul, Point, due, due_by, row_by, row_due, rows_by, rows_due, told_all, told_point}
+use Rattle.iso_conduct.specs.Parts.Part.{EntryLook, TableScan}
+use Rattle.iso_conduct.specs.Points.{Haul, Point, due, due_by, row_by, row_due, rows_by, rows_due, told_point}
 use Rattle.iso_conduct.specs.declared.moves.Told.{Told}
 use Rattle.iso_history.specs.After.{after}
 use Rattle.iso_history.specs.Lasts.{due_of, due_of_claim, last_of}
 use Rattle.iso_history.specs.Legal.{is_fresh_on}
 use Rattle.iso_history.specs.Looks.{look, shown}
 use Rattle.iso_history.specs.Makers.{by_agent}
-use Rattle.iso_history.specs.Marks.{mark_of}
-use Rattle.iso_history.specs.Outcomes.{at_limit, escalated_by, last_record, limited_by, look_act, look_by}
+use Rattle.iso_history.specs.Outcomes.{at_limit, escalated_by, limited_by, look_act, look_by}
 use Rattle.iso_history.specs.Phases.{doom_by, doom_of_agent}
 use Rattle.iso_history.specs.Phases.Doom.{Dooms, Spares}
 use Rattle.iso_history.specs.Requests.{Outcome, escalation, request}
@@ -26,20 +25,17 @@ use Rattle.iso_history.specs.Versions.{slots}
 use Rattle.iso_history.specs.World.{Last, World}
 use Rattle.iso_history.specs.World.Last.{Awaits, Claimed, Looked, Other}
 use Rattle.iso_history.specs.declared.entry.Act.{Act}
-use Rattle.iso_history.specs.declared.entry.Act.TheVariants.{Back, Claim, Collapse, Commit, Delete, Free, Insert, Lock, Look, Mark, Next, Refused, Reply, Rollback, ScanEnd, Set, Stopped, Undo, Update}
+use Rattle.iso_history.specs.declared.entry.Act.TheVariants.{Look, ScanEnd, Stopped}
 use Rattle.iso_history.specs.declared.entry.Cause.TheVariants.{History}
 use Rattle.iso_history.specs.declared.entry.Got.{Got}
-use Rattle.iso_history.specs.declared.entry.Stand.{Stand}
 use Rattle.iso_history.specs.declared.entry.Want.{Want}
-use Rattle.iso_history.specs.declared.entry.Why.TheVariants as why
 use Rattle.iso_modes.specs.declared.Mode.{Mode}
-use Rattle.iso_standing.proofs.Between.{IsBare, IsLooked, awaited_of, behind-bare, collapse_of, freed_of, looked-between, says_more, sought_by, steps-bare, told-bare}
-use Rattle.iso_standing.proofs.Fronted.{AreSteps, BehindClaim, Fronted, Unrolled, behind-fronted, says_end, steps-fronted, told-fronted}
-use Rattle.iso_standing.proofs.Ready.{Readied, Rolled, RollsBack, with_left}
+use Rattle.iso_standing.proofs.Between.{IsBare, IsLooked, awaited_of, collapse_of, freed_of, looked-between, says_more, sought_by, steps-bare, told-bare}
+use Rattle.iso_standing.proofs.Fronted.{AreSteps, Unrolled, says_end, steps-fronted, told-fronted}
+use Rattle.iso_standing.proofs.Ready.{RollsBack}
 use Rattle.iso_types.specs.declared.head.Head.{Head}
 use Rattle.iso_types.specs.declared.value.Conn.{Conn}
-use Rattle.iso_types.specs.declared.value.Name.{Name}
-use Rattle.iso_types.specs.declared.value.Name.TheVariants.{End, Key, Row, Table}
+use Rattle.iso_types.specs.declared.value.Name.TheVariants.{Row, Table}
 use Rattle.iso_types.specs.declared.value.Rid.{Rid}
 use Rattle.iso_types.specs.declared.value.TableId.{TableId}
 use Rattle.iso_types.specs.declared.value.Value.{Value}

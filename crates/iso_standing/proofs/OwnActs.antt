@@ -1,31 +1,29 @@
 -- The same of each act, and of each front of what is left.
-use Rattle.std.proofs.Common.{◌≡◌, ◌⊎◌, inl, inr, ℕ, Bool, true, false, List, [], ◌∷◌, refl, sym, ◌∙◌, ap, subst, Option, Some, None, option_map, pos}
-use Rattle.iso_conduct.proofs.Heard.{made-heard}
+use Rattle.std.proofs.Common.{◌≡◌, inl, inr, ℕ, true, false, List, [], ◌∷◌, refl, sym, ◌∙◌, ap, subst, Some, None, pos}
 use Rattle.iso_conduct.specs.Answers.{AreAnswers}
-use Rattle.iso_conduct.specs.Conduct.{ends, heard, made}
+use Rattle.iso_conduct.specs.Conduct.{ends, heard}
 use Rattle.iso_conduct.specs.Outcomes.{act_of}
 use Rattle.iso_conduct.specs.Parts.{Part, rolling_list}
 use Rattle.iso_conduct.specs.Parts.Part.{Claims, Collapses, Frees, Leaves, Undos}
-use Rattle.iso_conduct.specs.Points.{Haul, Point, due, due_by, row_by, row_due, rows_by, rows_due, told_all, told_point}
+use Rattle.iso_conduct.specs.Points.{Point, due, due_by, row_by, row_due, rows_by, rows_due, told_all}
 use Rattle.iso_conduct.specs.declared.moves.Told.{Told}
 use Rattle.iso_history.specs.After.{after}
-use Rattle.iso_history.specs.Lasts.{due_of, due_of_claim, last_of}
+use Rattle.iso_history.specs.Lasts.{due_of_claim}
 use Rattle.iso_history.specs.Makers.{by_agent}
 use Rattle.iso_history.specs.Marks.{mark_of}
-use Rattle.iso_history.specs.Outcomes.{due_mode, last_record}
-use Rattle.iso_history.specs.Phases.{doom_of_agent}
+use Rattle.iso_history.specs.Outcomes.{due_mode}
 use Rattle.iso_history.specs.World.{Last, World}
 use Rattle.iso_history.specs.World.Last.{Awaits, Claimed, Looked, Other}
 use Rattle.iso_history.specs.declared.entry.Act.{Act}
-use Rattle.iso_history.specs.declared.entry.Act.TheVariants.{Back, Claim, Collapse, Commit, Delete, Free, Insert, Lock, Look, Mark, Next, Refused, Reply, Rollback, ScanEnd, Set, Stopped, Undo, Update}
+use Rattle.iso_history.specs.declared.entry.Act.TheVariants.{Back, Claim, Collapse, Delete, Free, Insert, Lock, Look, Mark, Next, Refused, Rollback, ScanEnd, Set, Undo, Update}
 use Rattle.iso_history.specs.declared.entry.Got.{Got}
 use Rattle.iso_history.specs.declared.entry.Stand.{Stand}
 use Rattle.iso_history.specs.declared.entry.Why.TheVariants as why
 use Rattle.iso_history.specs.Writes.{minus}
-use Rattle.iso_standing.proofs.Between.{awaited_of, behind-bare, collapse_of, freed_of, steps-bare}
-use Rattle.iso_standing.proofs.Fronted.{AreSteps, BehindClaim, Fronted, Unrolled, behind-fronted, steps-fronted}
-use Rattle.iso_standing.proofs.Own.{FateIs, GoesWith, act-made, awaits_table, bare-goes, claim-due, looked-goes, silent-goes, sought-is, timed-goes, told-goes, unfreed}
-use Rattle.iso_standing.proofs.Ready.{Readied, Rolled, RollsBack, with_left}
+use Rattle.iso_standing.proofs.Between.{awaited_of, behind-bare, collapse_of, steps-bare}
+use Rattle.iso_standing.proofs.Fronted.{AreSteps, BehindClaim, Fronted, behind-fronted, steps-fronted}
+use Rattle.iso_standing.proofs.Own.{FateIs, GoesWith, awaits_table, bare-goes, claim-due, looked-goes, silent-goes, sought-is, timed-goes, told-goes, unfreed}
+use Rattle.iso_standing.proofs.Ready.{Readied, Rolled, with_left}
 use Rattle.iso_types.specs.declared.head.Head.{Head}
 use Rattle.iso_types.specs.declared.value.Conn.{Conn}
 use Rattle.iso_types.specs.declared.value.Name.TheVariants.{End, Key, Row, Table}

@@ -1,10 +1,10 @@
 -- What is told before an entry is made leaves in front what stood there, but for the undos that are done and a wait that was ended.
 use Rattle.std.proofs.Common.{◌≡◌, ◌⊎◌, inl, inr, ℕ, Bool, true, false, List, [], ◌∷◌, refl, sym, ◌∙◌, ap, subst, Option, Some, None, if◌then◌else◌, pos}
 use Rattle.iso_conduct.proofs.Queues.{is_claim_next}
-use Rattle.iso_conduct.specs.Conduct.{has_left, quiet, quiet_back, quiet_claim, quieted}
+use Rattle.iso_conduct.specs.Conduct.{has_left, quiet_back, quiet_claim, quieted}
 use Rattle.iso_conduct.specs.Parts.{Part, rolling_list}
-use Rattle.iso_conduct.specs.Parts.Part.{Backs, Claims, Leaves, Refuses, Replies, Undos}
-use Rattle.iso_conduct.specs.Points.{Point, due, ending, told_point}
+use Rattle.iso_conduct.specs.Parts.Part.{Backs, Claims, Leaves, Replies, Undos}
+use Rattle.iso_conduct.specs.Points.{Point, ending, told_point}
 use Rattle.iso_conduct.specs.declared.moves.Told.{Told}
 use Rattle.iso_history.specs.Marks.{mark_of}
 use Rattle.iso_history.specs.Phases.{phase}

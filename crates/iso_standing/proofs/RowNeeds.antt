@@ -1,5 +1,5 @@
 -- What the changes of a statement need of the rows that its scan kept: each is seen as it was kept, and locked before its change.
-use Rattle.std.proofs.Common.{◌≡◌, ◌<◌, ◌+◌, ◌⊎◌, inl, inr, ℕ, Bool, true, false, List, [], ◌∷◌, ◌++◌, refl, Ok, Err, Result}
+use Rattle.std.proofs.Common.{◌≡◌, ◌<◌, ◌⊎◌, inl, inr, ℕ, Bool, true, false, List, [], ◌∷◌, ◌++◌, refl, Ok, Err, Result}
 use Rattle.iso_conduct.specs.Parts.{Part}
 use Rattle.iso_conduct.specs.Parts.Part.{Answer, Asks, Backs, Changes, EntryLook, Frees, IndexScan, Leaves, NewRow, Refuses, Replies, RowDelete, RowUpdate, TableScan, Undos}
 use Rattle.iso_conduct.specs.Points.{Haul, change_part, change_parts, fault_code, found_rows}

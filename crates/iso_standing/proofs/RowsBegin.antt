@@ -25,7 +25,7 @@ use Rattle.iso_sql.specs.declared.statement.Items2.TheVariants.{All, Columns, Co
 use Rattle.iso_sql.specs.declared.statement.Statement.{Statement}
 use Rattle.iso_sql.specs.declared.statement.Statement.TheVariants as st
 use Rattle.iso_standing.proofs.RowNeeds.{AllRows, Assigns, Seen, Written}
-use Rattle.iso_types.specs.Head.{all_fit, fits_column, indexes, indexes_of, row_fits, table_of_index}
+use Rattle.iso_types.specs.Head.{all_fit, fits_column, indexes_of, row_fits, table_of_index}
 use Rattle.iso_types.specs.Ids.{table_eq}
 use Rattle.iso_types.specs.declared.head.Column.{Column}
 use Rattle.iso_types.specs.declared.head.Head.{Head}

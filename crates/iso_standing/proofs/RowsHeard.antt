@@ -35,7 +35,7 @@ use Rattle.iso_modes.specs.Modes.{at_least, joined, mode_eq, mode_number}
 use Rattle.iso_modes.specs.declared.Mode.{Mode}
 use Rattle.iso_modes.specs.declared.Mode.TheVariants.{X}
 use Rattle.iso_modes.specs.declared.Term.TheVariants.{Kept}
-use Rattle.iso_queue.specs.Locks.{held, target}
+use Rattle.iso_queue.specs.Locks.{held}
 use Rattle.iso_queue.specs.Queues.{Wait}
 use Rattle.iso_sql.specs.declared.statement.Statement.{Statement}
 use Rattle.iso_standing.proofs.RowNeeds.{Scanned, Seen, Written}

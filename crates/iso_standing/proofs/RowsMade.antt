@@ -4,7 +4,7 @@ use Rattle.std.specs.Prelude.{nat_lt}
 use Rattle.iso_conduct.specs.Conduct.{made}
 use Rattle.iso_conduct.specs.Outcomes.{act_of}
 use Rattle.iso_conduct.specs.Parts.{Part}
-use Rattle.iso_conduct.specs.Parts.Part.{Asks, EntryLook, Frees, IndexScan, NewRow, Refuses, RowDelete, RowUpdate, Settles, TableScan, Undos}
+use Rattle.iso_conduct.specs.Parts.Part.{Asks, EntryLook, Frees, IndexScan, NewRow, RowDelete, RowUpdate, Settles, TableScan, Undos}
 use Rattle.iso_conduct.specs.Points.{Haul, Point, due_by, row_by, rows_due}
 use Rattle.iso_history.specs.Makers.{by_agent}
 use Rattle.iso_history.specs.Nexts.{next}

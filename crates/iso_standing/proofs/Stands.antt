@@ -1,37 +1,24 @@
 -- What stands in front of a statement goes with its connection's world: the Collapse that is due, its last entry and its doom.
-use Rattle.std.proofs.Common.{◌≡◌, ◌⊎◌, inl, inr, ℕ, Bool, true, false, List, [], ◌∷◌, refl, sym, ◌∙◌, ap, subst, Option, Some, None, option_map, is_some, if◌then◌else◌}
+use Rattle.std.proofs.Common.{◌≡◌, ◌⊎◌, inl, inr, ℕ, Bool, true, false, List, [], refl, ◌∙◌, subst, Option, Some, None, option_map, is_some}
 use Rattle.std.specs.Prelude.{is_none}
-use Rattle.iso_conduct.proofs.FrontsAlong.{goes-on, may-made}
-use Rattle.iso_conduct.proofs.Heard.{made-heard}
-use Rattle.iso_conduct.proofs.PairedAlong.{IsTied, next_at}
 use Rattle.iso_conduct.proofs.Queues.{is_claim_next}
-use Rattle.iso_conduct.specs.Answers.{AreAnswers}
-use Rattle.iso_conduct.specs.Conduct.{IsNext, MayIn, Rolls, closing_act, ends, heard, made, moved_by, moved_in, quieted, ready, statement_at, stops_for_memory}
-use Rattle.iso_conduct.specs.Parts.{Part, listed, rolling_list}
-use Rattle.iso_conduct.specs.Points.{Point, start_point, told_all}
-use Rattle.iso_history.proofs.facts.Waiters.{runs-open}
-use Rattle.iso_history.specs.After.{after}
-use Rattle.iso_history.specs.Lasts.{due_of, last_of}
-use Rattle.iso_history.specs.Legal.{Allowed, ByAgent}
-use Rattle.iso_history.specs.Makers.{by_agent}
-use Rattle.iso_history.specs.Outcomes.{last_record}
-use Rattle.iso_history.specs.Phases.{closing_by, doom_by, doom_of_agent, phase, phase_of}
+use Rattle.iso_conduct.specs.Conduct.{quieted, ready, statement_at}
+use Rattle.iso_conduct.specs.Parts.{Part, listed}
+use Rattle.iso_conduct.specs.Points.{Point, start_point}
+use Rattle.iso_history.specs.Phases.{phase, phase_of}
 use Rattle.iso_history.specs.World.{Setting, World}
-use Rattle.iso_history.specs.declared.entry.Act.{Act}
-use Rattle.iso_history.specs.declared.entry.Act.TheVariants.{Commit, Reply, Rollback, Stopped, Undo}
 use Rattle.iso_queue.specs.Queues.{is_waiting}
 use Rattle.iso_script.specs.declared.script.Line.{Line}
 use Rattle.iso_sql.specs.declared.statement.Statement.{Statement}
 use Rattle.iso_sql.specs.declared.statement.Statement.TheVariants as st
 use Rattle.iso_standing.proofs.Between.{awaited_of, collapse_of, freed_of}
-use Rattle.iso_standing.proofs.Fronted.{Unrolled, listed-unrolled}
+use Rattle.iso_standing.proofs.Fronted.{listed-unrolled}
 use Rattle.iso_standing.proofs.Own.{FateIs, FreesLooked, awaits_table}
-use Rattle.iso_standing.proofs.Ready.{IsQuieted, Readied, Rolled, RollsBack, ready-keeps, ready-rolled}
+use Rattle.iso_standing.proofs.Ready.{IsQuieted, Rolled, RollsBack, ready-keeps, ready-rolled}
 use Rattle.iso_types.specs.declared.desk.Phase.{Phase}
-use Rattle.iso_types.specs.declared.desk.Phase.TheVariants.{Closing, Idle, Rolling, Running}
+use Rattle.iso_types.specs.declared.desk.Phase.TheVariants.{Closing, Rolling, Running}
 use Rattle.iso_types.specs.declared.head.Head.{Head}
 use Rattle.iso_types.specs.declared.value.Conn.{Conn}
-use Rattle.iso_types.specs.declared.value.TableId.{TableId}
 
 -- what is left at a point that may not be there
 abbrev pub left_at : Option Point → List Part

@@ -2,14 +2,13 @@
 use Rattle.std.proofs.Common.{◌≡◌, Bool, true, false, List, [], ◌∷◌, refl, sym, subst, Option, None, inl, if◌then◌else◌}
 use Rattle.iso_conduct.proofs.Open.{eq-is}
 use Rattle.iso_conduct.proofs.PairedAlong.{IsTied, tied-along}
-use Rattle.iso_conduct.specs.Conduct.{Conduct, ConductFrom, Does, MayIn, is_by, moved, point, point_after, point_from}
+use Rattle.iso_conduct.specs.Conduct.{Conduct, ConductFrom, Does, moved, point, point_after, point_from}
 use Rattle.iso_conduct.specs.Points.{Point}
 use Rattle.iso_history.proofs.whole.Sound.{sound-after, start-sound}
 use Rattle.iso_history.specs.After.{after, start, world, world_from}
 use Rattle.iso_history.specs.Facts.{IsSound}
 use Rattle.iso_history.specs.Legal.{Allowed, Ground, GroundFrom}
 use Rattle.iso_history.specs.Makers.{by_agent}
-use Rattle.iso_history.specs.Phases.{phase}
 use Rattle.iso_history.specs.World.{World}
 use Rattle.iso_history.specs.declared.entry.Act.{Act}
 use Rattle.iso_history.specs.declared.entry.Entry.{Entry}

@@ -1,31 +1,28 @@
 -- What others do leaves it so that what stands in front goes with the world.
-use Rattle.std.proofs.Common.{◌≡◌, ◌⊎◌, inl, inr, ℕ, Bool, true, false, List, [], ◌∷◌, refl, sym, ◌∙◌, ap, subst, Option, Some, None, option_map, is_some, if◌then◌else◌}
+use Rattle.std.proofs.Common.{◌≡◌, ◌⊎◌, inl, inr, ℕ, Bool, true, false, List, refl, sym, ◌∙◌, ap, subst, Option, Some, None, option_map, is_some, if◌then◌else◌}
 use Rattle.std.specs.Option.{option_map_or}
 use Rattle.std.specs.Prelude.{is_none}
 use Rattle.iso_conduct.proofs.Open.{eq-is, eq-turned}
 use Rattle.iso_conduct.proofs.PairedAlong.{IsTied, next_at}
 use Rattle.iso_conduct.proofs.Queues.{is_claim_next}
-use Rattle.iso_conduct.specs.Conduct.{is_by}
 use Rattle.iso_conduct.specs.Points.{Point}
 use Rattle.iso_history.proofs.facts.Others.{hold_on-others}
 use Rattle.iso_history.proofs.limits.Others.{IsSameAt, others-agent}
 use Rattle.iso_history.proofs.limits.Victims.{HasVictim, has_victim}
 use Rattle.iso_history.specs.After.{after}
-use Rattle.iso_history.specs.Facts.{IsOpen, WaitersOpen}
-use Rattle.iso_history.specs.Lasts.{due_of, last_of}
-use Rattle.iso_history.specs.Legal.{By, ByDispatcher, is_fresh_on}
+use Rattle.iso_history.specs.Facts.{WaitersOpen}
+use Rattle.iso_history.specs.Legal.{ByDispatcher, is_fresh_on}
 use Rattle.iso_history.specs.Makers.{by_agent, by_dispatcher}
-use Rattle.iso_history.specs.Phases.{closing_by, doom_by, doom_of_dispatcher, is_phase, phase, phase_of, victim}
+use Rattle.iso_history.specs.Phases.{closing_by, doom_by, doom_of_dispatcher, is_phase, phase, phase_of}
 use Rattle.iso_history.specs.Phases.Doom.{Dooms, Spares}
 use Rattle.iso_history.specs.World.{World}
 use Rattle.iso_history.specs.declared.entry.Act.{Act}
 use Rattle.iso_history.specs.declared.entry.Act.TheVariants.{Close, Expire, Victim}
-use Rattle.iso_history.specs.declared.entry.Who.TheVariants.{Agent, Dispatcher}
+use Rattle.iso_history.specs.declared.entry.Who.TheVariants.{Dispatcher}
 use Rattle.iso_modes.specs.Terms.{is_fresh}
 use Rattle.iso_queue.specs.Locks.{Hold}
-use Rattle.iso_queue.specs.Queues.{Wait, is_waiting, wait_of}
-use Rattle.iso_standing.proofs.Own.{FateIs, FreesLooked, awaits_table}
-use Rattle.iso_standing.proofs.Between.{freed_of}
+use Rattle.iso_queue.specs.Queues.{is_waiting, wait_of}
+use Rattle.iso_standing.proofs.Own.{FateIs, awaits_table}
 use Rattle.iso_standing.proofs.Stands.{StandsAt, left_at, some-is}
 use Rattle.iso_types.specs.Ids.{conn_eq}
 use Rattle.iso_types.specs.declared.desk.Phase.{Phase}

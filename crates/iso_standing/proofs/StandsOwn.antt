@@ -1,31 +1,29 @@
 -- An own entry leaves it so that what stands in front goes with the world.
-use Rattle.std.proofs.Common.{◌≡◌, ◌⊎◌, inl, inr, ℕ, Bool, true, false, List, [], ◌∷◌, refl, sym, ◌∙◌, ap, subst, Option, Some, None, option_map, is_some, if◌then◌else◌}
+use Rattle.std.proofs.Common.{◌≡◌, ◌⊎◌, inl, inr, ℕ, Bool, true, false, List, [], refl, sym, ◌∙◌, ap, subst, Option, Some, None, option_map}
 use Rattle.iso_conduct.proofs.FrontsAlong.{goes-on, may-made}
 use Rattle.iso_conduct.proofs.Heard.{made-heard}
 use Rattle.iso_conduct.proofs.Open.{eq-same}
 use Rattle.iso_conduct.specs.Answers.{AreAnswers}
-use Rattle.iso_conduct.specs.Conduct.{IsNext, MayIn, Rolls, closing_act, ends, heard, made, moved_by, moved_in, ready, stops_for_memory}
+use Rattle.iso_conduct.specs.Conduct.{IsNext, MayIn, Rolls, closing_act, ends, heard, made, moved_by, moved_in, ready}
 use Rattle.iso_conduct.specs.Points.{Point, told_all}
 use Rattle.iso_history.specs.After.{after}
 use Rattle.iso_history.specs.Lasts.{due_of, last_of}
-use Rattle.iso_history.specs.Legal.{Allowed, ByAgent}
+use Rattle.iso_history.specs.Legal.{ByAgent}
 use Rattle.iso_history.specs.Makers.{by_agent}
 use Rattle.iso_history.specs.Outcomes.{last_record}
 use Rattle.iso_history.specs.Phases.{closing_by, doom_by, doom_of_agent, phase}
 use Rattle.iso_history.specs.World.{World}
 use Rattle.iso_history.specs.declared.entry.Act.{Act}
-use Rattle.iso_history.specs.declared.entry.Act.TheVariants.{Commit, Reply, Rollback, Stopped, Undo}
+use Rattle.iso_history.specs.declared.entry.Act.TheVariants.{Commit, Reply, Rollback, Stopped}
 use Rattle.iso_history.specs.declared.entry.Who.TheVariants.{Agent}
 use Rattle.iso_script.specs.declared.script.Line.{Line}
-use Rattle.iso_standing.proofs.Between.{awaited_of, collapse_of, freed_of}
-use Rattle.iso_standing.proofs.Own.{FateIs, FreesLooked, GoesWith, act-made, awaits_table, unfreed}
+use Rattle.iso_standing.proofs.Own.{FateIs, GoesWith, act-made, awaits_table, unfreed}
 use Rattle.iso_standing.proofs.OwnActs.{readied-goes, rolled-goes}
 use Rattle.iso_standing.proofs.Stands.{StandsAt, is-closing, is-doomed, is-spared, left_at, ready-is, ready-rolls}
 use Rattle.iso_types.specs.declared.desk.Phase.{Phase}
 use Rattle.iso_types.specs.declared.desk.Phase.TheVariants.{Closing, Idle, Rolling, Running}
 use Rattle.iso_types.specs.declared.head.Head.{Head}
 use Rattle.iso_types.specs.declared.value.Conn.{Conn}
-use Rattle.iso_types.specs.declared.value.TableId.{TableId}
 
 -- a closing connection stays so
 stays-closing : (f : Conn → Bool) (c : Conn) (a : Act) → f c ≡ true → closing_by f (Agent c) a c ≡ true

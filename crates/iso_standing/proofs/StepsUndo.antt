@@ -1,19 +1,19 @@
 -- The Undos and the Rollback that end a unit: a record is left to undo, or none is.
-use Rattle.std.proofs.Common.{◌≡◌, ◌⊎◌, inl, inr, ℕ, Bool, true, false, not, List, [], ◌∷◌, refl, sym, ◌∙◌, ap, subst, arith, Option, Some, None, option_map, ℤ, if◌then◌else◌, pos}
+use Rattle.std.proofs.Common.{◌≡◌, ◌⊎◌, inl, inr, ℕ, Bool, true, false, not, List, [], ◌∷◌, refl, sym, ◌∙◌, ap, subst, arith, Option, Some, None, ℤ, if◌then◌else◌, pos}
 use Rattle.std.proofs.lemmas.Bool.Decides.{nat_tests}
 use Rattle.std.specs.Option.{option_map_or}
-use Rattle.std.specs.Prelude.{is_none, is_some, nat_lt, slice_get}
+use Rattle.std.specs.Prelude.{is_some, nat_lt, slice_get}
 use Rattle.iso_conduct.proofs.Queues.{is_claim_next}
 use Rattle.iso_conduct.specs.Conduct.{Conduct, has_left, point, quiet, ready}
-use Rattle.iso_conduct.specs.Parts.{Part, rolling_list}
-use Rattle.iso_conduct.specs.Parts.Part.{Claims, Leaves, Undos}
+use Rattle.iso_conduct.specs.Parts.{Part}
+use Rattle.iso_conduct.specs.Parts.Part.{Leaves, Undos}
 use Rattle.iso_conduct.specs.Points.{Haul, Point, due, due_by}
 use Rattle.iso_conduct.specs.declared.moves.Move.{Move}
 use Rattle.iso_conduct.specs.declared.moves.Told.{Told}
 use Rattle.iso_history.specs.After.{world}
 use Rattle.iso_history.specs.Legal.{Ground, RollbackStands, may_undo}
 use Rattle.iso_history.specs.Outcomes.{last_record}
-use Rattle.iso_history.specs.Phases.{is_active, phase}
+use Rattle.iso_history.specs.Phases.{phase}
 use Rattle.iso_history.specs.Records.{left, left_of}
 use Rattle.iso_history.specs.Units.{unit_of}
 use Rattle.iso_history.specs.World.{World}
