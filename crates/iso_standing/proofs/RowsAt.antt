@@ -4,7 +4,7 @@ use Rattle.std.proofs.lemmas.Bool.{lt-ltb}
 use Rattle.std.specs.Prelude.{is_some}
 use Rattle.iso_conduct.specs.Conduct.{Conduct, point, ready}
 use Rattle.iso_conduct.specs.Parts.{Part}
-use Rattle.iso_conduct.specs.Parts.Part.{Asks, IndexScan, RowDelete, RowUpdate}
+use Rattle.iso_conduct.specs.Parts.Part.{Asks, RowDelete, RowUpdate}
 use Rattle.iso_conduct.specs.Points.{Haul, Point, due, due_by, row_by, row_due}
 use Rattle.iso_conduct.specs.declared.moves.Move.{Move}
 use Rattle.iso_history.proofs.pending.WritesAwaits.{keeps-held}
@@ -33,10 +33,8 @@ use Rattle.iso_types.specs.Head.{row_fits}
 use Rattle.iso_types.specs.declared.desk.Phase.TheVariants.{Running}
 use Rattle.iso_types.specs.declared.head.Column.{Column}
 use Rattle.iso_types.specs.declared.head.Head.{Head}
-use Rattle.iso_types.specs.declared.head.Range.{Range}
 use Rattle.iso_types.specs.declared.value.Conn.{Conn}
-use Rattle.iso_types.specs.declared.value.IndexId.{IndexId}
-use Rattle.iso_types.specs.declared.value.Name.TheVariants.{End, Key, Row}
+use Rattle.iso_types.specs.declared.value.Name.TheVariants.{Row}
 use Rattle.iso_types.specs.declared.value.Rid.{Rid}
 use Rattle.iso_types.specs.declared.value.TableId.{TableId}
 use Rattle.iso_types.specs.declared.value.Value.{Value}
@@ -65,23 +63,6 @@ module _ (head : Head) (w : World) (s : IsSound head w) (c : Conn) (st : Stateme
             (lt-ltb q.0 (slots w u) (seen-there head w s c u q n.0.1 n.0.2))),
       )
   asked-there t r m (x ∷ ps) e n = cc
-
-  -- no key is asked for, and no index scan goes on
-  asked-key : (i : IndexId) (v : Value) (m : Mode) (ps : List Part) → due_by kept ps ≡ Move.Lock (Key i v) m → RowsOf ps → ⊥
-  asked-key i v m [] e n = cc
-  asked-key i v m (Asks (Key j u) k ∷ ps) e n = n.0
-  asked-key i v m (x ∷ ps) e n = cc
-
-  asked-end : (i : IndexId) (m : Mode) (ps : List Part) → due_by kept ps ≡ Move.Lock (End i) m → RowsOf ps → ⊥
-  asked-end i m [] e n = cc
-  asked-end i m (Asks (End j) k ∷ ps) e n = n.0
-  asked-end i m (x ∷ ps) e n = cc
-
-  stepped : (i : IndexId) (range : Range) (at : Option (Value × Rid)) (guarded : Bool) (ps : List Part) → due_by kept ps ≡ Move.Next i range at guarded
-      → RowsOf ps → ⊥
-  stepped i range at guarded [] e n = cc
-  stepped i range at guarded (IndexScan k at' ∷ ps) e n = n.0
-  stepped i range at guarded (x ∷ ps) e n = cc
 
   may-write : (t : TableId) (r : Rid) → has_write_lock head w.holds c t r ≡ true
       → (is_covered head w.holds c (Row t r) X || holds_at_least w.holds c (Row t r) X) ≡ true
@@ -130,24 +111,9 @@ module _ (script : Script) (es : List Entry) (c : Conn) (p : Point) (sound : IsS
   sound-now : IsSound script.head (world script.head es)
   sound-now = sound-world script.head es ground
 
-  -- a row is asked for in X alone
-  pub row-mode-at : (t : TableId) (r : Rid) (m : Mode) → due p ≡ Move.Lock (Row t r) m → m ≡ X
-  row-mode-at t r m e = (asked-there script.head (world script.head es) sound-now c p.statement p.columns p.kept t r m p.left e rows-at).0
-
   -- a row that is to be locked for its change is there
   pub row-there-at : (t : TableId) (r : Rid) (m : Mode) → due p ≡ Move.Lock (Row t r) m → is_there script.head (world script.head es) (Row t r) ≡ true
   row-there-at t r m e = (asked-there script.head (world script.head es) sound-now c p.statement p.columns p.kept t r m p.left e rows-at).1
-
-  -- no key and no end of an index is asked for, and no step of an index scan is due
-  pub no-key-at : (i : IndexId) (v : Value) (m : Mode) → due p ≡ Move.Lock (Key i v) m → ⊥
-  no-key-at i v m e = asked-key script.head (world script.head es) sound-now c p.statement p.columns p.kept i v m p.left e rows-at
-
-  pub no-end-at : (i : IndexId) (m : Mode) → due p ≡ Move.Lock (End i) m → ⊥
-  no-end-at i m e = asked-end script.head (world script.head es) sound-now c p.statement p.columns p.kept i m p.left e rows-at
-
-  pub no-next-at : (i : IndexId) (range : Range) (after : Option (Value × Rid)) (guarded : Bool) → due p ≡ Move.Next i range after guarded → ⊥
-  no-next-at i range after guarded e =
-      stepped script.head (world script.head es) sound-now c p.statement p.columns p.kept i range after guarded p.left e rows-at
 
   -- a row that is to be updated or deleted may be changed
   pub change-at : phase (world script.head es) c ≡ Running → (t : TableId) (r : Rid) → (due p ≡ Move.Update t r) ⊎ (due p ≡ Move.Delete t r)
