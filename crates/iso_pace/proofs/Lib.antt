@@ -7,3 +7,4 @@ pub mod Victims
 pub mod Closes
 pub mod Begins
 pub mod Dispatches
+pub mod QuietEnds

@@ -31,10 +31,10 @@ use Rattle.iso_pace.specs.Told.{IsYoungestOf}
 -- ---- the members of the chosen cycle are the head's
 
 -- whether the first has an edge to the second
-abbrev edge_in : Head → World → Conn → Conn → Bool
+abbrev pub edge_in : Head → World → Conn → Conn → Bool
 edge_in head w c d = is_among c (conns head) && is_among d (edges_in head w c)
 
-targets-in : (head : Head) (w : World) → AreTargets (edge_in head w) (edges_in head w) (conns head)
+pub targets-in : (head : Head) (w : World) → AreTargets (edge_in head w) (edges_in head w) (conns head)
 targets-in head w = history-targets head w.holds w.waits (edge_in head w) (λ c d. refl)
 
 chosen-in : (head : Head) (w : World) (cycle : List Conn) → cycle_in head w ≡ Some cycle → IsChosen (edge_in head w) cycle

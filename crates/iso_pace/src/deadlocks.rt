@@ -1,6 +1,6 @@
 //! The step by which the dispatcher ends a deadlock.
 
-ghost use Rattle.std.specs.Prelude.{if◌then◌else◌, ◌≡◌, ◌<◌, ◌++◌, [], ◌∷◌, length, nat_lt, false, Some, Option};
+ghost use Rattle.std.specs.Prelude.{if◌then◌else◌, ◌≡◌, ◌<◌, ◌++◌, [], ◌∷◌, length, is_some, nat_lt, false, Some, Option};
 ghost use Rattle.iso_history.specs.Makers.{by_dispatcher};
 ghost use Rattle.iso_history.specs.Phases.{phase, victim};
 ghost use Rattle.iso_history.specs.Quiet.{cycle_in};
@@ -85,6 +85,7 @@ pub fn detect(parts: &mut Parts) -> Option<Conn>
     ensures stands { StandsFor parts.new }
     ensures head { parts.new.head ≡ parts.old.head }
     ensures answer { result ≡ detected parts.old.head (world_of parts.old) }
+    ensures found { is_some result ≡ is_some (cycle_in parts.old.head (world_of parts.old)) }
     ensures ok { parts.new.history.items ≡ parts.old.history.items ++ detecting (cycle_in parts.old.head (world_of parts.old)) }
 {
     match chosen(parts) {
