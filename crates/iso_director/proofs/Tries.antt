@@ -1,5 +1,6 @@
 -- What the calls that take a line come to, as steps of conduct.
-use Rattle.std.proofs.Common.{◌≡◌, ℕ, Bool, true, false, ◌||◌, List, [], ◌∷◌, ◌++◌, refl, sym, ap, subst, ◌∙◌, Option, Some, None, if◌then◌else◌, is_some, Result, Ok, Err, OnOk, OnErr}
+use Rattle.std.proofs.Common.{◌≡◌, ℕ, Bool, true, false, ◌||◌, List, [], ◌∷◌, ◌++◌, refl, sym, ap, subst, ◌∙◌, Option, Some, None}
+use Rattle.std.proofs.Common.{if◌then◌else◌, is_some, Result, Ok, Err, OnOk, OnErr}
 use Rattle.std.specs.Option.{option_map_or}
 use Rattle.std.specs.Prelude.{IfOk}
 use Rattle.std.proofs.lemmas.Bool.{both_ways}
@@ -119,12 +120,16 @@ module _ (head : Head) (w : World) (old new : List Entry) (r : Result Paced Step
       (ap (step_of head w l.number l.what) conn ∙ step-statement l.number l.what c asks)
       ∙ sym (ap (λ (b : Bool). if b then None else if l.free || is_quiet head w then statement_step head w l.number c else None) going)
 
+  -- by whether somebody stopped, the line may be taken, its connection is idle, or busy
+  abbrev step_by : ℕ → Conn → Bool → Bool → Bool → Bool → Option Act
+  step_by n c stopped may idle busy =
+      if stopped then None else if may then (if idle then Some (Dispatch n c) else if busy then Some (Busy n c) else None) else None
+
   answered-is : (n : ℕ) (c : Conn) (free : Bool) → w.pace.stopped ≡ false → is_taken (dispatched head w n c free) ≡ is_some (statement_line head w n c free)
   answered-is n c free going = go w.pace.stopped going (free || is_quiet head w) (is_phase (phase w c) Idle) (is_busy head w c)
     where
       go : (s : Bool) → s ≡ false → (f i b : Bool)
-          → is_taken (if s then Paced.Stopping else answered (if s then None else if f then (if i then Some (Dispatch n c) else if b then Some (Busy n c) else None) else None))
-          ≡ is_some (if s then None else if f then (if i then Some (Dispatch n c) else if b then Some (Busy n c) else None) else None)
+          → is_taken (if s then Paced.Stopping else answered (step_by n c s f i b)) ≡ is_some (step_by n c s f i b)
       go true e f i b = absurd (cc)
       go false e false i b = refl
       go false e true true b = refl

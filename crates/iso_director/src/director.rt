@@ -77,7 +77,8 @@ impl Director {
         requires left { self.old.taken < length script.now.lines }
         ensures stands { StandsFor parts.new }
         ensures head { parts.new.head ≡ parts.old.head }
-        ensures made { HasMade script.now.head (world_of parts.old) (drop self.old.taken script.now.lines) (drop self.new.taken script.now.lines) parts.old.history.items parts.new.history.items result }
+        ensures made { HasMade script.now.head (world_of parts.old) (drop self.old.taken script.now.lines)
+            (drop self.new.taken script.now.lines) parts.old.history.items parts.new.history.items result }
     {
         match take(parts, &script.lines.as_slice()[self.taken]) {
             Taken::Line => {
@@ -99,7 +100,8 @@ impl Director {
         requires acyclic { cycle_in parts.old.head (world_of parts.old) ≡ None }
         ensures stands { StandsFor parts.new }
         ensures head { parts.new.head ≡ parts.old.head }
-        ensures made { HasMade script.now.head (world_of parts.old) (drop self.old.taken script.now.lines) (drop self.new.taken script.now.lines) parts.old.history.items parts.new.history.items result }
+        ensures made { HasMade script.now.head (world_of parts.old) (drop self.old.taken script.now.lines)
+            (drop self.new.taken script.now.lines) parts.old.history.items parts.new.history.items result }
     {
         if parts.pace.stopped {
             return end(parts);
@@ -119,7 +121,8 @@ impl Director {
         requires sound { IsSound script.now }
         ensures stands { StandsFor parts.new }
         ensures head { parts.new.head ≡ parts.old.head }
-        ensures made { HasMade script.now.head (world_of parts.old) (drop self.old.taken script.now.lines) (drop self.new.taken script.now.lines) parts.old.history.items parts.new.history.items result }
+        ensures made { HasMade script.now.head (world_of parts.old) (drop self.old.taken script.now.lines)
+            (drop self.new.taken script.now.lines) parts.old.history.items parts.new.history.items result }
     {
         if end_deadlock(parts) {
             return Led::Ran;

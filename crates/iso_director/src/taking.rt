@@ -34,7 +34,8 @@ fn take_statement(parts: &mut Parts, line: &Line, conn: Conn) -> Result<Paced, S
     requires conn { line.now.conn ≡ Some conn }
     ensures stands { StandsFor parts.new }
     ensures head { parts.new.head ≡ parts.old.head }
-    ensures tried { HasTried parts.old.head (world_of parts.old) (line_step parts.old.head (world_of parts.old) line.now) parts.old.history.items parts.new.history.items result }
+    ensures tried { HasTried parts.old.head (world_of parts.old) (line_step parts.old.head (world_of parts.old) line.now)
+        parts.old.history.items parts.new.history.items result }
     ensures err { OnErr result (content_of parts.new ≡ content_of parts.old) }
 {
     dispatch(parts, line.number, conn, line.free)
@@ -51,7 +52,8 @@ fn take_expire(parts: &mut Parts, line: &Line, conn: Conn) -> Result<Paced, Step
     requires conn { line.now.conn ≡ Some conn }
     ensures stands { StandsFor parts.new }
     ensures head { parts.new.head ≡ parts.old.head }
-    ensures tried { HasTried parts.old.head (world_of parts.old) (line_step parts.old.head (world_of parts.old) line.now) parts.old.history.items parts.new.history.items result }
+    ensures tried { HasTried parts.old.head (world_of parts.old) (line_step parts.old.head (world_of parts.old) line.now)
+        parts.old.history.items parts.new.history.items result }
     ensures err { OnErr result (content_of parts.new ≡ content_of parts.old) }
 {
     expire(parts, line.number, conn)
@@ -67,7 +69,8 @@ fn take_snapshot(parts: &mut Parts, line: &Line) -> Result<Paced, StepFault>
     requires asks { line.now.what ≡ Asks.Snapshot }
     ensures stands { StandsFor parts.new }
     ensures head { parts.new.head ≡ parts.old.head }
-    ensures tried { HasTried parts.old.head (world_of parts.old) (line_step parts.old.head (world_of parts.old) line.now) parts.old.history.items parts.new.history.items result }
+    ensures tried { HasTried parts.old.head (world_of parts.old) (line_step parts.old.head (world_of parts.old) line.now)
+        parts.old.history.items parts.new.history.items result }
     ensures err { OnErr result (content_of parts.new ≡ content_of parts.old) }
 {
     snapshot(parts, line.number)
@@ -83,7 +86,8 @@ fn take_own(parts: &mut Parts, line: &Line, conn: Conn) -> Result<Paced, StepFau
     requires conn { line.now.conn ≡ Some conn }
     ensures stands { StandsFor parts.new }
     ensures head { parts.new.head ≡ parts.old.head }
-    ensures tried { HasTried parts.old.head (world_of parts.old) (line_step parts.old.head (world_of parts.old) line.now) parts.old.history.items parts.new.history.items result }
+    ensures tried { HasTried parts.old.head (world_of parts.old) (line_step parts.old.head (world_of parts.old) line.now)
+        parts.old.history.items parts.new.history.items result }
     ensures err { OnErr result (content_of parts.new ≡ content_of parts.old) }
 {
     match &line.what {
@@ -103,7 +107,8 @@ fn take_common(parts: &mut Parts, line: &Line) -> Result<Paced, StepFault>
     requires conn { line.now.conn ≡ None }
     ensures stands { StandsFor parts.new }
     ensures head { parts.new.head ≡ parts.old.head }
-    ensures tried { HasTried parts.old.head (world_of parts.old) (line_step parts.old.head (world_of parts.old) line.now) parts.old.history.items parts.new.history.items result }
+    ensures tried { HasTried parts.old.head (world_of parts.old) (line_step parts.old.head (world_of parts.old) line.now)
+        parts.old.history.items parts.new.history.items result }
     ensures err { OnErr result (content_of parts.new ≡ content_of parts.old) }
 {
     match &line.what {
@@ -122,7 +127,8 @@ fn try_line(parts: &mut Parts, line: &Line) -> Result<Paced, StepFault>
     requires line { IsLine parts.old.head line.now }
     ensures stands { StandsFor parts.new }
     ensures head { parts.new.head ≡ parts.old.head }
-    ensures tried { HasTried parts.old.head (world_of parts.old) (line_step parts.old.head (world_of parts.old) line.now) parts.old.history.items parts.new.history.items result }
+    ensures tried { HasTried parts.old.head (world_of parts.old) (line_step parts.old.head (world_of parts.old) line.now)
+        parts.old.history.items parts.new.history.items result }
     ensures err { OnErr result (content_of parts.new ≡ content_of parts.old) }
 {
     match line.conn {
@@ -164,7 +170,8 @@ pub(crate) fn take(parts: &mut Parts, line: &Line) -> Taken
     requires line { IsLine parts.old.head line.now }
     ensures stands { StandsFor parts.new }
     ensures head { parts.new.head ≡ parts.old.head }
-    ensures taken { HasLineTaken parts.old.head (world_of parts.old) (line_step parts.old.head (world_of parts.old) line.now) parts.old.history.items parts.new.history.items result }
+    ensures taken { HasLineTaken parts.old.head (world_of parts.old) (line_step parts.old.head (world_of parts.old) line.now)
+        parts.old.history.items parts.new.history.items result }
 {
     match try_line(parts, line) {
         Ok(paced) => {

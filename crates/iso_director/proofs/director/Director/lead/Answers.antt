@@ -31,7 +31,8 @@ go_on-requires-clause-acyclic c =
     let q = c.end_deadlock.new.parts in
     let none = sym c.end_deadlock.ensures.answer ∙ c.if-end_deadlock.false in
     moved (λ h es. cycle_in h (world h es) ≡ None) p.head q.head p.history.items q.history.items c.end_deadlock.ensures.head
-    (none-same p.head (world_of p) p.history.items q.history.items none c.end_deadlock.ensures.ok) (none-cycle p.head (world_of p) p.history.items q.history.items none)
+    (none-same p.head (world_of p) p.history.items q.history.items none c.end_deadlock.ensures.ok)
+    (none-cycle p.head (world_of p) p.history.items q.history.items none)
 
 pub returns-clause-made : goal.returns-clause-made
 returns-clause-made c =

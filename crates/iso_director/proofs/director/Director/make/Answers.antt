@@ -11,6 +11,8 @@ returns-clause-taken c =
     let s = c.args.script.now in
     let k = c.args.self.now.taken in
     let m = c.lead.new.self.taken in
-    made-taken s p.history.items c.lead.new.parts.history.items k m c.lead.result c.requires.taken
-    (subst (λ (h : Head). HasMade s.head (world h p.history.items) (drop k s.lines) (drop m s.lines) p.history.items c.lead.new.parts.history.items c.lead.result)
+    let old = p.history.items in
+    let new = c.lead.new.parts.history.items in
+    made-taken s old new k m c.lead.result c.requires.taken
+    (subst (λ (h : Head). HasMade s.head (world h old) (drop k s.lines) (drop m s.lines) old new c.lead.result)
     c.requires.head c.lead.ensures.made)
