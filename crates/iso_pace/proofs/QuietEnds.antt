@@ -1,26 +1,26 @@
 -- In quiet somebody is idle, as long as not all have ended: who waits has an edge to who has not ended, and there is no cycle.
-use Rattle.std.proofs.Common.{◌≡◌, ◌∙◌, sym, inl, inr, Bool, true, false, not, ◌&&◌, ◌||◌, List, [], ◌∷◌, filter, find, refl, subst, Option, Some, None, if◌then◌else◌, is_none, MatchOption}
+use Rattle.std.proofs.Common.{◌≡◌, ◌∙◌, sym, inl, inr, Bool, true, false, not, ◌&&◌, ◌||◌, List, [], ◌∷◌, filter, find, refl, subst, Option, Some, None, if◌then◌else◌}
 use Rattle.std.specs.List.{list_all}
 use Rattle.std.specs.Option.{option_map_or}
 use Rattle.std.proofs.lemmas.Bool.{and_from, and_parts, both_ways, not-true}
 use Rattle.iso_conduct.proofs.ProgressEdges.{stuck-on}
 use Rattle.iso_conduct.proofs.ProgressHolders.{AreLive, IsLive, live-world}
 use Rattle.iso_history.specs.Phases.{is_phase, phase}
-use Rattle.iso_history.specs.Quiet.{all_ended, cycle_in, edges_in, is_quiet, is_resting, least_idle, waits_stuck}
+use Rattle.iso_history.specs.Quiet.{all_ended, edges_in, is_quiet, is_resting, least_idle, waits_stuck}
 use Rattle.iso_history.specs.World.{World}
 use Rattle.iso_queue.specs.Queues.{Wait, edges, has_edge, wait_of}
-use Rattle.iso_types.specs.Cycles.{HasNoCycle, IsChosen, chosen_cycle, is_among}
+use Rattle.iso_types.specs.Cycles.{is_among}
 use Rattle.iso_types.specs.Head.{conns}
 use Rattle.iso_types.specs.declared.desk.Phase.{Phase}
 use Rattle.iso_types.specs.declared.desk.Phase.TheVariants.{Idle}
 use Rattle.iso_types.specs.declared.head.Head.{Head}
 use Rattle.iso_types.specs.declared.value.Conn.{Conn}
-use Rattle.iso_waitgraph.proofs.Agree.{chosen}
 use Rattle.iso_waitgraph.proofs.Members.{among-cases, among-first, among-rest}
 use Rattle.iso_waitgraph.proofs.Paths.{cycle-inside}
 use Rattle.iso_pace.proofs.Closes.{ended-is}
 use Rattle.iso_pace.proofs.Graphs.{among-conns, among-kept, among-passes}
-use Rattle.iso_pace.proofs.Victims.{edge_in, targets-in}
+use Rattle.iso_pace.proofs.Victims.{edge_in}
+use Rattle.iso_pace.proofs.Waits.{quiet-cycleless}
 use Rattle.iso_state.specs.Stands.{StandsFor, world_of}
 use Rattle.iso_state.specs.declared.parts.Parts.{Parts}
 
@@ -82,18 +82,6 @@ module _ (head : Head) (w : World) (live : AreLive head w) (quiet : is_quiet hea
       go None e h = absurd (both_ways false refl h)
       go (Some x) e h = (x, e, h)
 
-  -- and there is no cycle
-  no-cycle : HasNoCycle (edge_in head w)
-  no-cycle =
-      let h : MatchOption (chosen_cycle (edges_in head w) (conns head)) (HasNoCycle (edge_in head w)) (IsChosen (edge_in head w)) =
-      chosen (edge_in head w) (edges_in head w) (conns head) (targets-in head w) in
-      subst (λ (o : Option (List Conn)). MatchOption o (HasNoCycle (edge_in head w)) (IsChosen (edge_in head w)))
-      (none-is (cycle_in head w) (and_parts _ _ quiet).1) h
-    where
-      none-is : (o : Option (List Conn)) → is_none o ≡ true → o ≡ None
-      none-is None e = refl
-      none-is (Some p) e = absurd (both_ways false refl e)
-
   -- so all have ended
   over : all_ended head w ≡ true
   over = go (all_ended head w) refl
@@ -114,7 +102,7 @@ module _ (head : Head) (w : World) (live : AreLive head w) (quiet : is_quiet hea
       go false e =
           let t : (c : Conn) × (is_among c (conns head) ≡ true) × (w.ended c ≡ false) = one-fails w.ended (conns head) e in
           absurd (cycle-inside (edge_in head w) (filter (λ d. not (w.ended d)) (conns head)) t.0
-          (among-kept (λ d. not (w.ended d)) t.0 (conns head) t.1 (rw t.2 refl)) inside no-cycle)
+          (among-kept (λ d. not (w.ended d)) t.0 (conns head) t.1 (rw t.2 refl)) inside (quiet-cycleless head w quiet))
 
 pub quiet-over : (p : Parts) → StandsFor p → is_quiet p.head (world_of p) ≡ true → least_idle p.head (world_of p) ≡ None
     → all_ended p.head (world_of p) ≡ true

@@ -1,9 +1,10 @@
 //! The step by which the dispatcher takes a statement's line.
 
-ghost use Rattle.std.specs.Prelude.{if◌then◌else◌, ◌≡◌, ◌<◌, ◌≤◌, ◌+◌, ◌++◌, [], ◌∷◌, length, false, true, is_some, slice_set, Err, IfOk, OnOk, OnErr, Option, Some, None};
+ghost use Rattle.std.specs.Prelude.{if◌then◌else◌, ◌≡◌, ◌<◌, ◌≤◌, ◌+◌, ◌++◌, ◌||◌, [], ◌∷◌, length, false, true, is_some, slice_set, Err, IfOk, OnOk, OnErr, Option, Some, None};
 ghost use Rattle.std.specs.Option.{option_map_or};
 ghost use Rattle.iso_history.specs.Makers.{by_dispatcher};
 ghost use Rattle.iso_history.specs.Phases.{phase};
+ghost use Rattle.iso_history.specs.Quiet.{is_busy, is_quiet};
 ghost use Rattle.iso_history.specs.Stops.{is_full};
 ghost use Rattle.iso_history.specs.declared.entry.Act.TheVariants as Acts;
 ghost use Rattle.iso_state.specs.Changes.{repaced, seated};
@@ -14,7 +15,7 @@ ghost use Rattle.iso_types.specs.declared.desk.Phase.TheVariants as Phases;
 
 use crate::closing::{has_unit, is_idle};
 use crate::lines::{Paced, of_dispatcher, pass_over};
-use crate::resting::{busy, quiet};
+use crate::resting::{busy, is_blocked, quiet};
 use iso_history::Act;
 use iso_state::{Parts, desk_of, make_room, move_to};
 use iso_types::{Conn, Desk, Phase, StepFault};
@@ -106,11 +107,27 @@ fn start(parts: &mut Parts, line: u32, conn: Conn) -> Result<(), StepFault>
     }
 }
 
+/// Whether a line of the connection is passed over: it waits with an edge, and lies on no cycle. A line that is not `free`
+/// comes in quiet alone, so no cycle is sought for it.
+fn is_passed_over(parts: &Parts, conn: Conn, free: bool) -> bool
+    requires stands { StandsFor parts.now }
+    requires conn { conn.0 < length parts.now.head.conns }
+    requires quiet { (free || is_quiet parts.now.head (world_of parts.now)) ≡ true }
+    ensures { result ≡ is_busy parts.now.head (world_of parts.now) conn }
+{
+    if free {
+        busy(parts, conn)
+    } else {
+        is_blocked(parts, conn)
+    }
+}
+
 /// Takes a line of a statement; `free`: it stands behind `&`. `Done`: the statement begins, and a unit of work where none is
 /// open; `Busy`: the connection waits for another one, and the line is passed over; `NotQuiet`: the line is not taken yet,
 /// since not all is quiet or, behind `&`, since its connection is neither idle nor waits outside every deadlock; `Stopping`:
 /// somebody stopped. `HistoryFull`: its entry would be full. A fault comes only where the line was to be taken, and leaves all as
-/// it was. Without `&` it asks the lock list once for each connection. (This project's own.)
+/// it was. Without `&` it costs what `quiet` costs. Behind `&` the lock list is asked only where the connection waits: whether it
+/// can go on, and then what `cyclic` asks. (This project's own.)
 pub fn dispatch(parts: &mut Parts, line: u32, conn: Conn, free: bool) -> Result<Paced, StepFault>
     requires stands { StandsFor parts.old }
     requires open { (world_of parts.old).pace.finished ≡ false }
@@ -135,7 +152,7 @@ pub fn dispatch(parts: &mut Parts, line: u32, conn: Conn, free: bool) -> Result<
         start(parts, line, conn)?;
         return Ok(Paced::Done);
     }
-    if busy(parts, conn) {
+    if is_passed_over(parts, conn, free) {
         pass_over(parts, line, conn)?;
         return Ok(Paced::Busy);
     }

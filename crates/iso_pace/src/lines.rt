@@ -129,7 +129,7 @@ fn expire_wait(parts: &mut Parts, line: u32, conn: Conn)
 /// Takes a line EXPIRE. `Done`: the connection waited, and has to roll back with -911 and reason 68; `NoEffect`: it did not
 /// wait; `NotQuiet`, `Stopping`: the line is not taken, since not all is quiet, or somebody stopped. `HistoryFull`: its entry
 /// would be full; never where the connection waits. A fault comes only where the line was to be taken, and leaves all as it was.
-/// Db2 LUW, 'SQLCODE -911'.
+/// It costs what `quiet` costs. Db2 LUW, 'SQLCODE -911'.
 pub fn expire(parts: &mut Parts, line: u32, conn: Conn) -> Result<Paced, StepFault>
     requires stands { StandsFor parts.old }
     requires open { (world_of parts.old).pace.finished ≡ false }
@@ -190,7 +190,7 @@ fn show(parts: &mut Parts, line: u32, locks: Items<LockLine>) -> Result<(), Step
 
 /// Takes a line SNAPSHOT. `Done`: all holds and waits are recorded; `NotQuiet`, `Stopping`: the line is not taken, since not
 /// all is quiet, or somebody stopped. `HistoryFull`: its entry would be full. A fault comes only where the line was to be
-/// taken, and leaves all as it was. It sorts the names. Db2 LUW, 'MON_GET_LOCKS'.
+/// taken, and leaves all as it was. It costs what `quiet` costs, and then it sorts the names. Db2 LUW, 'MON_GET_LOCKS'.
 pub fn snapshot(parts: &mut Parts, line: u32) -> Result<Paced, StepFault>
     requires stands { StandsFor parts.old }
     requires open { (world_of parts.old).pace.finished ≡ false }
