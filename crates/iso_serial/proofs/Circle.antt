@@ -42,8 +42,8 @@ pub agents-cons : (head : Head) (k to : ℕ) → k < to → to ≤ length head.c
 agents-cons head k to lt le =
     rw (agents-to head to le)
     (
-      drop-cons (map agent (range_with_len 0 to)) k (agent k) (rw (length-map-range_with_len agent 0 to) lt)
-      ∙ ap (λ (w : Who). w ∷ drop (suc k) (map agent (range_with_len 0 to))) (get_or-map-range_with_len agent 0 to k k (agent k) lt (omega arith))
+    drop-cons (map agent (range_with_len 0 to)) k (agent k) (rw (length-map-range_with_len agent 0 to) lt)
+    ∙ ap (λ (w : Who). w ∷ drop (suc k) (map agent (range_with_len 0 to))) (get_or-map-range_with_len agent 0 to k k (agent k) lt (omega arith))
     )
 
 -- none is left at the end

@@ -1,5 +1,5 @@
 -- Whose turn it is, from what was asked: the agents behind the last actor, the dispatcher, and the agents up to that actor.
-use Rattle.std.proofs.Common.{◌≡◌, ℕ, suc, ◌+◌, Bool, true, false, List, drop, take, find, length, refl, sym, ap, ◌∙◌, subst, arith, Some, None}
+use Rattle.std.proofs.Common.{◌≡◌, ℕ, suc, ◌+◌, ◌<◌, ◌≤◌, Bool, true, false, List, ◌∷◌, drop, take, find, length, refl, sym, ap, ◌∙◌, subst, arith, Some, None}
 use Rattle.std.specs.List.{list_any}
 use Rattle.iso_conduct.specs.Schedule.{actors, after_actor}
 use Rattle.iso_history.specs.declared.entry.Entry.{Entry}
@@ -7,8 +7,38 @@ use Rattle.iso_history.specs.declared.entry.Who.{Who}
 use Rattle.iso_history.specs.declared.entry.Who.TheVariants.{Dispatcher}
 use Rattle.iso_script.specs.declared.script.Line.{Line}
 use Rattle.iso_types.specs.declared.head.Head.{Head}
-use Rattle.iso_serial.proofs.Circle.{agents-all, found-before, found-behind, found-dispatcher, nobody}
+use Rattle.iso_serial.proofs.Circle.{agents-all, agents-cons, find-here, find-past, found-before, found-behind, found-dispatcher, nobody}
 use Rattle.iso_serial.specs.Rounds.{HasAsked, HasMade, HasTried, actor, agent, agents_of, could_act}
+
+-- ---- the agents that are asked in their order
+
+module _ (head : Head) (lines : List Line) (old mid new : List Entry) (from at to : ℕ) (b : Bool) (lt : at < to) (le : to ≤ length head.conns)
+    (same : mid ≡ old) (tried : HasTried head lines mid new (agent at) b)
+    (passed : find (could_act head lines old) (drop at (take to (agents_of head))) ≡ find (could_act head lines old) (drop from (take to (agents_of head)))) where
+  tried-as : (r : Bool) → b ≡ r → HasTried head lines old new (agent at) r
+  tried-as r is = subst (HasTried head lines old new (agent at)) is (subst (λ (es : List Entry). HasTried head lines es new (agent at) b) same tried)
+
+  here : find (could_act head lines old) (agent at ∷ drop (suc at) (take to (agents_of head))) ≡ find (could_act head lines old) (drop from (take to (agents_of head)))
+  here = ap (find (could_act head lines old)) (sym (agents-cons head at to lt le)) ∙ passed
+
+  -- it made an entry: it is the first that could act
+  pub asked-here : b ≡ true → HasAsked head lines old new (drop from (take to (agents_of head))) (Some at)
+  asked-here is =
+      let t = tried-as true is in
+      (t.0, sym here ∙ find-here (could_act head lines old) (agent at) (drop (suc at) (take to (agents_of head))) t.1)
+
+  -- it could not: those behind it are asked
+  pub asked-past : b ≡ false
+      → (new ≡ old) × (find (could_act head lines old) (drop (at + 1) (take to (agents_of head))) ≡ find (could_act head lines old) (drop from (take to (agents_of head))))
+  asked-past is =
+      let t = tried-as false is in
+      let next : suc at ≡ at + 1 = omega arith in (
+        t.0,
+        subst (λ (k : ℕ). find (could_act head lines old) (drop k (take to (agents_of head))) ≡ find (could_act head lines old) (drop from (take to (agents_of head)))) next
+            (sym (find-past (could_act head lines old) (agent at) (drop (suc at) (take to (agents_of head))) t.1) ∙ here),
+      )
+
+-- ---- the turn
 
 -- an entry by this actor, whose turn it was after the last one
 abbrev pub IsTurn : Head → List Line → List Entry → List Entry → ℕ → ℕ → Type 0
