@@ -21,10 +21,10 @@ pub first-taken : (script : Script) (es : List Entry) (taken : ℕ) → es ≡ [
 first-taken script es taken none zeroth = rw (none, zeroth) (none-taken script)
 
 -- the dispatcher alone can act
-begins : (script : Script) → IsSound script → could_act script.head script.lines [] Dispatcher ≡ true
+begins : (script : Script) → IsSound script → could_act script [] Dispatcher ≡ true
 unfolding world world_from lines_left lines_from Ground GroundFrom Paced PacedFrom
 begins script sound = first-leads script.head script.lines (some-able script [] sound tt tt refl)
 
-pub dispatcher-begins : (script : Script) (es : List Entry) → es ≡ [] → IsSound script → could_act script.head script.lines es Dispatcher ≡ true
+pub dispatcher-begins : (script : Script) (es : List Entry) → es ≡ [] → IsSound script → could_act script es Dispatcher ≡ true
 dispatcher-begins script es none sound =
-    subst (λ (fs : List Entry). could_act script.head script.lines fs Dispatcher ≡ true) (sym none) (begins script sound)
+    subst (λ (fs : List Entry). could_act script fs Dispatcher ≡ true) (sym none) (begins script sound)

@@ -70,7 +70,8 @@ module _ (p : Who → Bool) where
   none-any : (xs : List Who) → find p xs ≡ None → list_any p xs ≡ false
   none-any [] h = refl
   none-any (x ∷ xs) h = go (p x) refl h (none-any xs) where
-    go : (b : Bool) → p x ≡ b → (if p x then Some x else find p xs) ≡ None → (find p xs ≡ None → list_any p xs ≡ false) → (p x || list_any p xs) ≡ false
+    go : (b : Bool) → p x ≡ b → (if p x then Some x else find p xs) ≡ None → (find p xs ≡ None → list_any p xs ≡ false)
+        → (p x || list_any p xs) ≡ false
     go true e k more = let s : Some x ≡ None = rw e at k in absurd (cc)
     go false e k more = rw e (more (rw e at k))
 
@@ -106,7 +107,8 @@ module _ (head : Head) (p : Who → Bool) (v : ℕ) where
       → list_any p (actors head) ≡ false
   nobody f unable g =
       let both : find p (take v (agents_of head) ++ drop v (agents_of head)) ≡ None =
-      find-append p (take v (agents_of head)) (drop v (agents_of head)) ∙ (ap (λ (o : Option Who). option_or o (find p (drop v (agents_of head)))) g ∙ f) in
+      find-append p (take v (agents_of head)) (drop v (agents_of head))
+      ∙ (ap (λ (o : Option Who). option_or o (find p (drop v (agents_of head)))) g ∙ f) in
       let all : find p (agents_of head) ≡ None = subst (λ (l : List Who). find p l ≡ None) (take-append-drop v (agents_of head)) both in
       rw unable (none-any p (agents_of head) all)
 

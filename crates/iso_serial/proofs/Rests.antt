@@ -57,16 +57,14 @@ rested-new script c task kept t k =
     (record { fits = record { reaches = refl; runs = λ h. absurd (cc) }; settled = refl; conduct = tt })
 
 -- whether it made an entry, by what its turn came to
-pub tried-turned : (head given : Head) (lines : List Line) (old new : List Entry) (at : ℕ) (c : Conn) (t : Turned) (b : Bool) → given ≡ head
-    → c.0 ≡ at → HasTurned old new c t → is_ran t ≡ is_able (world given old) c → b ≡ is_ran t → HasTried head lines old new (agent at) b
-tried-turned head given lines old new at c t b same here h able is =
-    subst (HasTried head lines old new (agent at)) (sym is)
-    (
-    subst (λ (k : ℕ). HasTried head lines old new (agent k) (is_ran t)) here
-    (go t h (subst (λ (z : Head). is_ran t ≡ is_able (world z old) c) same able))
-    )
+pub tried-turned : (script : Script) (given : Head) (old new : List Entry) (at : ℕ) (c : Conn) (t : Turned) (b : Bool) → given ≡ script.head
+    → c.0 ≡ at → HasTurned old new c t → is_ran t ≡ is_able (world given old) c → b ≡ is_ran t → HasTried script old new (agent at) b
+tried-turned script given old new at c t b same here h able is =
+    let P : ℕ → Type 0 = λ k. HasTried script old new (agent k) (is_ran t) in
+    subst (HasTried script old new (agent at)) (sym is)
+    (subst P here (go t h (subst (λ (z : Head). is_ran t ≡ is_able (world z old) c) same able)))
   where
-    go : (t : Turned) → HasTurned old new c t → is_ran t ≡ is_able (world head old) c → HasTried head lines old new (agent c.0) (is_ran t)
+    go : (t : Turned) → HasTurned old new c t → is_ran t ≡ is_able (world script.head old) c → HasTried script old new (agent c.0) (is_ran t)
     go Ran h able = (record { act = h.0; history = h.1; leads = tt }, sym able)
     go Rests h able = (h, sym able)
     go Ended h able = (h, sym able)
@@ -80,11 +78,12 @@ new-rested script es agents none new count = record {
   conns = new.conns;
   rested = λ i lt.
       let a = agent_at agents i in
-      subst (λ (fs : List Entry). IsRested script fs a.conn a.task a.kept) (sym none) (rested-new script a.conn a.task a.kept (new.tasks i lt) (new.kept i lt));
+      subst (λ (fs : List Entry). IsRested script fs a.conn a.task a.kept) (sym none)
+      (rested-new script a.conn a.task a.kept (new.tasks i lt) (new.kept i lt));
 }
 
 -- after an entry of the dispatcher
-pub led-rested : (script : Script) (old new : List Entry) (agents : List Agent) → HasMade script.head script.lines old new Dispatcher
+pub led-rested : (script : Script) (old new : List Entry) (agents : List Agent) → HasMade script old new Dispatcher
     → Ground script.head new → AreRested script old agents → AreRested script new agents
 led-rested script old new agents m g r = record {
   count = r.count;

@@ -9,6 +9,7 @@ use Rattle.iso_history.specs.declared.entry.Entry.{Entry}
 use Rattle.iso_history.specs.declared.entry.Who.{Who}
 use Rattle.iso_history.specs.declared.entry.Who.TheVariants.{Dispatcher}
 use Rattle.iso_script.specs.declared.script.Line.{Line}
+use Rattle.iso_script.specs.declared.script.Script.{Script}
 use Rattle.iso_types.specs.declared.head.Head.{Head}
 use Rattle.iso_serial.specs.Rounds.{HasMade, IsAfter, could_act, turns_from}
 
@@ -38,22 +39,24 @@ unfolding Scheduled ScheduledFrom
 Scheduled-nil head lines = tt
 
 -- entry 0 is the dispatcher's
-pub after-first : (head : Head) (lines : List Line) (new : List Entry) → HasMade head lines [] new Dispatcher → IsAfter head lines new Dispatcher
-after-first head lines new m =
+pub after-first : (script : Script) (new : List Entry) → HasMade script [] new Dispatcher → IsAfter script new Dispatcher
+after-first script new m =
     let e : Entry = record { who = Dispatcher; act = m.act } in
     record {
-      scheduled = subst (Scheduled head lines None) (sym m.history) (Scheduled-snoc head lines [] e (Scheduled-nil head lines) refl m.leads);
+      scheduled = subst (Scheduled script.head script.lines None) (sym m.history)
+          (Scheduled-snoc script.head script.lines [] e (Scheduled-nil script.head script.lines) refl m.leads);
       turns = ap (turns_from (Round None)) m.history;
     }
 
 -- each further entry is that of the first able actor after the maker of the one before
-pub after-next : (head : Head) (lines : List Line) (old new : List Entry) (last who : Who) → IsAfter head lines old last
-    → HasMade head lines old new who → find (could_act head lines old) (after_actor head last) ≡ Some who → IsAfter head lines new who
-after-next head lines old new last who a m found =
+pub after-next : (script : Script) (old new : List Entry) (last who : Who) → IsAfter script old last → HasMade script old new who
+    → find (could_act script old) (after_actor script.head last) ≡ Some who → IsAfter script new who
+after-next script old new last who a m found =
     let e : Entry = record { who = who; act = m.act } in
-    let whose : turn head (world head old) (lines_left lines old) (turns_from (Round None) old) ≡ Some who =
-    ap (turn head (world head old) (lines_left lines old)) a.turns ∙ found in
+    let whose : turn script.head (world script.head old) (lines_left script.lines old) (turns_from (Round None) old) ≡ Some who =
+    ap (turn script.head (world script.head old) (lines_left script.lines old)) a.turns ∙ found in
     record {
-      scheduled = subst (Scheduled head lines None) (sym m.history) (Scheduled-snoc head lines old e a.scheduled whose m.leads);
+      scheduled = subst (Scheduled script.head script.lines None) (sym m.history)
+          (Scheduled-snoc script.head script.lines old e a.scheduled whose m.leads);
       turns = ap (turns_from (Round None)) m.history ∙ (turns_from-snoc (Round None) old e ∙ ap (λ (t : Turns). turns_after t who) a.turns);
     }

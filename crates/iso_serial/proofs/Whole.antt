@@ -23,7 +23,7 @@ use Rattle.iso_serial.specs.Rounds.{HasMade, agent, could_act}
 use Rattle.iso_serial.specs.UnderWay.{AreRested, agent_at}
 
 -- the agents' entries take no line
-pub agent-taken : (script : Script) (old new : List Entry) (c taken : ℕ) → HasMade script.head script.lines old new (agent c)
+pub agent-taken : (script : Script) (old new : List Entry) (c taken : ℕ) → HasMade script old new (agent c)
     → HasTaken script old taken → HasTaken script new taken
 agent-taken script old new c taken m t = record { paced = paced-agent script old new c m t.paced; left = left-agent script old new c m ∙ t.left }
 
@@ -40,13 +40,13 @@ legal-of script es agents taken g r t = record {
 
 -- where the history has not finished, some actor of the circle can act
 pub goes-on : (script : Script) (head : Head) (es : List Entry) (taken : ℕ) → head ≡ script.head → IsSound script → Ground head es
-    → HasTaken script es taken → (world head es).pace.finished ≡ false → list_any (could_act script.head script.lines es) (actors script.head) ≡ true
+    → HasTaken script es taken → (world head es).pace.finished ≡ false → list_any (could_act script es) (actors script.head) ≡ true
 goes-on script head es taken same sound g t going =
     some-able script es sound (subst (λ (h : Head). Ground h es) same g) t.paced (subst (λ (h : Head). (world h es).pace.finished ≡ false) same going)
 
 -- each turn comes nearer to the limit
 pub nearer : (script : Script) (old new : List Entry) (who : Who) → IsSound script → Ground script.head new
-    → HasMade script.head script.lines old new who → history_limit - length new < history_limit - length old
+    → HasMade script old new who → history_limit - length new < history_limit - length old
 nearer script old new who sound g m =
     let most : length new ≤ history_limit = bounded script new sound g in
     let more : length new ≡ length old + 1 = ap length m.history ∙ length-append old _ in

@@ -1,8 +1,8 @@
 //! The agents of a run, one a connection.
-ghost use Rattle.std.specs.Prelude.{◌≡◌, ◌<◌, ◌≤◌, drop, length, take, vec_len, IfOk, IfSome};
+ghost use Rattle.std.specs.Prelude.{◌≡◌, ◌<◌, ◌≤◌, length, vec_len, IfOk, IfSome};
 ghost use Rattle.iso_agent.specs.Turns.{is_ran};
 ghost use Rattle.iso_script.specs.Sound.{IsSound};
-ghost use Rattle.iso_serial.specs.Rounds.{HasAsked, HasTried, agent, agents_of};
+ghost use Rattle.iso_serial.specs.Rounds.{HasAsked, HasTried, agent, agents_between};
 ghost use Rattle.iso_serial.specs.UnderWay.{AreNew, AreRested};
 ghost use Rattle.iso_state.specs.Stands.{StandsFor};
 
@@ -48,7 +48,7 @@ fn try_agent(
     ensures stands { StandsFor parts.new }
     ensures head { parts.new.head ≡ parts.old.head }
     ensures rested { AreRested script.now parts.new.history.items agents.new.items }
-    ensures tried { HasTried script.now.head script.now.lines parts.old.history.items parts.new.history.items (agent at) result }
+    ensures tried { HasTried script.now parts.old.history.items parts.new.history.items (agent at) result }
 {
     let agent = &mut agents[at];
     let turned = agent.make(alloc, script, parts);
@@ -76,7 +76,7 @@ pub fn ask_agents(
     ensures stands { StandsFor parts.new }
     ensures head { parts.new.head ≡ parts.old.head }
     ensures rested { AreRested script.now parts.new.history.items agents.new.items }
-    ensures asked { HasAsked script.now.head script.now.lines parts.old.history.items parts.new.history.items (drop from (take to (agents_of script.now.head))) result }
+    ensures asked { HasAsked script.now parts.old.history.items parts.new.history.items (agents_between script.now.head from to) result }
     ensures within { IfSome result (λ at. at < to) }
 {
     for at in from..to {

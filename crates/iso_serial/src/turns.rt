@@ -25,7 +25,7 @@ fn try_director(script: &Script, parts: &mut Parts, director: &mut Director) -> 
     ensures stands { StandsFor parts.new }
     ensures head { parts.new.head ≡ parts.old.head }
     ensures taken { HasTaken script.now parts.new.history.items director.new.taken }
-    ensures tried { HasTried script.now.head script.now.lines parts.old.history.items parts.new.history.items Dispatcher result }
+    ensures tried { HasTried script.now parts.old.history.items parts.new.history.items Dispatcher result }
 {
     matches!(director.make(script, parts), Led::Ran)
 }
@@ -41,7 +41,7 @@ pub fn take_first_turn(script: &Script, parts: &mut Parts, director: &mut Direct
     ensures stands { StandsFor parts.new }
     ensures head { parts.new.head ≡ parts.old.head }
     ensures taken { HasTaken script.now parts.new.history.items director.new.taken }
-    ensures made { HasMade script.now.head script.now.lines parts.old.history.items parts.new.history.items Dispatcher }
+    ensures made { HasMade script.now parts.old.history.items parts.new.history.items Dispatcher }
 {
     if !try_director(script, parts, director) {
         unreachable!();
@@ -70,8 +70,8 @@ pub fn take_turn(
     ensures head { parts.new.head ≡ parts.old.head }
     ensures taken { HasTaken script.now parts.new.history.items director.new.taken }
     ensures rested { AreRested script.now parts.new.history.items agents.new.items }
-    ensures made { HasMade script.now.head script.now.lines parts.old.history.items parts.new.history.items (actor result) }
-    ensures whose { find (could_act script.now.head script.now.lines parts.old.history.items) (after_actor script.now.head (actor last)) ≡ Some (actor result) }
+    ensures made { HasMade script.now parts.old.history.items parts.new.history.items (actor result) }
+    ensures whose { find (could_act script.now parts.old.history.items) (after_actor script.now.head (actor last)) ≡ Some (actor result) }
     ensures within { result ≤ vec_len agents.new }
 {
     let count = agents.len();

@@ -1,5 +1,5 @@
-use Rattle.std.proofs.Common.{◌≡◌, ◌≤◌, vec_len, drop, take, find}
-use Rattle.iso_serial.specs.Rounds.{agents_of, could_act}
+use Rattle.std.proofs.Common.{◌≡◌, find}
+use Rattle.iso_serial.specs.Rounds.{agents_between, could_act}
 use Rattle.iso_serial.specs.UnderWay.{AreRested}
 use Rattle.iso_state.specs.Stands.{StandsFor}
 use Rattle.iso_serial.proofs.agents.ask_agents.Given as goal
@@ -10,6 +10,6 @@ invariant-loop-at l = record {
   head : l.parts.head ≡ l.fn.parts.head;
   same : l.parts.history.items ≡ l.fn.parts.history.items;
   rested : AreRested l.script l.parts.history.items l.agents.items;
-  passed : find (could_act l.script.head l.script.lines l.fn.parts.history.items) (drop l.at (take l.to (agents_of l.script.head)))
-      ≡ find (could_act l.script.head l.script.lines l.fn.parts.history.items) (drop l.from (take l.to (agents_of l.script.head)));
+  passed : find (could_act l.script l.fn.parts.history.items) (agents_between l.script.head l.at l.to)
+      ≡ find (could_act l.script l.fn.parts.history.items) (agents_between l.script.head l.from l.to);
 }

@@ -27,6 +27,6 @@ returns-clause-tried c =
     let a = c.index_mut-agent.result.now in
     let lt : c.args.at < length agents = search rules in
     let place = (is-at c.args.script.now c.args.parts.now.history.items agents c.args.at a lt c.index_mut-agent.ensures.value c.requires.rested).place in
-    tried-turned c.args.script.now.head c.args.parts.now.head c.args.script.now.lines c.args.parts.now.history.items
+    tried-turned c.args.script.now c.args.parts.now.head c.args.parts.now.history.items
     c.make-turned.new.parts.history.items c.args.at a.conn c.make-turned.result c.has_run.result c.requires.head place
     c.make-turned.ensures.turned c.make-turned.ensures.able c.has_run.ensures

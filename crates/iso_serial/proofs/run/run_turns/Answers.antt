@@ -29,7 +29,7 @@ turns-init c =
       taken = c.take_first_turn.ensures.taken;
       rested = led-rested script old new c.args.agents.now.items made ground c.requires.rested;
       within = omega arith;
-      scheduled = after-first script.head script.lines new (subst (λ (es : List Entry). HasMade script.head script.lines es new Dispatcher) c.requires.none made);
+      scheduled = after-first script new (subst (λ (es : List Entry). HasMade script es new Dispatcher) c.requires.none made);
     }
 
 pub turns-smaller : goal.turns-smaller
@@ -37,7 +37,8 @@ turns-smaller c =
     let script = c.args.script.now in
     let new = c.take_turn-last.new.parts.history.items in
     let ground : Ground script.head new =
-    subst (λ (h : Head). Ground h new) (c.take_turn-last.ensures.head ∙ (c.turns.invariant.head ∙ c.requires.head)) c.take_turn-last.ensures.stands.ground in
+    subst (λ (h : Head). Ground h new) (c.take_turn-last.ensures.head ∙ (c.turns.invariant.head ∙ c.requires.head))
+    c.take_turn-last.ensures.stands.ground in
     nearer script c.turns.parts.history.items new (actor c.take_turn-last.result) c.requires.sound ground c.take_turn-last.ensures.made
 
 pub turns-preserved : goal.turns-preserved
@@ -49,7 +50,7 @@ turns-preserved c =
       taken = c.take_turn-last.ensures.taken;
       rested = c.take_turn-last.ensures.rested;
       within = c.take_turn-last.ensures.within;
-      scheduled = after-next script.head script.lines c.turns.parts.history.items c.take_turn-last.new.parts.history.items (actor c.turns.last)
+      scheduled = after-next script c.turns.parts.history.items c.take_turn-last.new.parts.history.items (actor c.turns.last)
           (actor c.take_turn-last.result) c.turns.invariant.scheduled c.take_turn-last.ensures.made c.take_turn-last.ensures.whose;
     }
 

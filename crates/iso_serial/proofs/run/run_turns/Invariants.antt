@@ -13,7 +13,7 @@ invariant-turns l = record {
   taken : HasTaken l.script l.parts.history.items l.director.taken;
   rested : AreRested l.script l.parts.history.items l.agents.items;
   within : l.last ≤ vec_len l.agents;
-  scheduled : IsAfter l.script.head l.script.lines l.parts.history.items (actor l.last);
+  scheduled : IsAfter l.script l.parts.history.items (actor l.last);
 }
 
 abbrev pub decreases-turns : goal.decreases-turns

@@ -18,7 +18,7 @@ pub returns-in-Some-clause-whose : goal.returns-in-Some-clause-whose
 returns-in-Some-clause-whose c =
     let all : c.len-count.result ≡ length c.args.script.now.head.conns = search rules in
     (
-    turn-behind c.args.script.now.head c.args.script.now.lines c.args.parts.now.history.items c.args.last c.len-count.result all
+    turn-behind c.args.script.now c.args.parts.now.history.items c.args.last c.len-count.result all
     c.ask_agents.new.parts.history.items c.in-Some.at c.in-Some.ensures.asked
     ).1
 
@@ -27,8 +27,8 @@ returns-then-try_director-clause-rested c =
     let script = c.args.script.now in
     let mid = c.ask_agents.new.parts.history.items in
     let new = c.try_director.new.parts.history.items in
-    let tried : HasTried script.head script.lines mid new Dispatcher true =
-    subst (HasTried script.head script.lines mid new Dispatcher) c.if-try_director.true c.try_director.ensures.tried in
+    let tried : HasTried script mid new Dispatcher true =
+    subst (HasTried script mid new Dispatcher) c.if-try_director.true c.try_director.ensures.tried in
     led-rested script mid new c.ask_agents.new.agents.items tried.0
     (subst (λ (h : Head). Ground h new) (c.try_director.ensures.head ∙ (c.ask_agents.ensures.head ∙ c.requires.head)) c.try_director.ensures.stands.ground)
     c.ask_agents.ensures.rested
@@ -40,9 +40,9 @@ returns-then-try_director-clause-whose c =
     let mid = c.ask_agents.new.parts.history.items in
     let new = c.try_director.new.parts.history.items in
     let all : c.len-count.result ≡ length script.head.conns = search rules in
-    let tried : HasTried script.head script.lines mid new Dispatcher true =
-    subst (HasTried script.head script.lines mid new Dispatcher) c.if-try_director.true c.try_director.ensures.tried in
-    (turn-dispatcher script.head script.lines old c.args.last c.len-count.result all mid c.in_default.ensures.asked new tried).1
+    let tried : HasTried script mid new Dispatcher true =
+    subst (HasTried script mid new Dispatcher) c.if-try_director.true c.try_director.ensures.tried in
+    (turn-dispatcher script old c.args.last c.len-count.result all mid c.in_default.ensures.asked new tried).1
 
 pub unreachable-requires : goal.unreachable-requires
 unreachable-requires c =
@@ -51,14 +51,13 @@ unreachable-requires c =
     let mid = c.ask_agents.new.parts.history.items in
     let next = c.try_director.new.parts.history.items in
     let all : c.len-count.result ≡ length script.head.conns = search rules in
-    let tried : HasTried script.head script.lines mid next Dispatcher false =
-    subst (HasTried script.head script.lines mid next Dispatcher) c.if-try_director.false c.try_director.ensures.tried in
-    both_ways _
-    (
-    no-turn script.head script.lines old c.args.last c.len-count.result all mid c.in_default.ensures.asked next tried
-    c.ask_agents-2.new.parts.history.items c.in-None.ensures.asked
-    )
-    (goes-on script c.args.parts.now.head old c.args.director.now.taken c.requires.head c.requires.sound c.requires.stands.ground c.requires.taken c.requires.goes_on)
+    let tried : HasTried script mid next Dispatcher false =
+    subst (HasTried script mid next Dispatcher) c.if-try_director.false c.try_director.ensures.tried in
+    let none = no-turn script old c.args.last c.len-count.result all mid c.in_default.ensures.asked next tried
+    c.ask_agents-2.new.parts.history.items c.in-None.ensures.asked in
+    let some = goes-on script c.args.parts.now.head old c.args.director.now.taken c.requires.head c.requires.sound c.requires.stands.ground
+    c.requires.taken c.requires.goes_on in
+    both_ways _ none some
 
 pub returns-clause-taken : goal.returns-clause-taken
 returns-clause-taken c =
@@ -72,9 +71,9 @@ returns-clause-whose c =
     let mid = c.ask_agents.new.parts.history.items in
     let next = c.try_director.new.parts.history.items in
     let all : c.len-count.result ≡ length script.head.conns = search rules in
-    let tried : HasTried script.head script.lines mid next Dispatcher false =
-    subst (HasTried script.head script.lines mid next Dispatcher) c.if-try_director.false c.try_director.ensures.tried in
+    let tried : HasTried script mid next Dispatcher false =
+    subst (HasTried script mid next Dispatcher) c.if-try_director.false c.try_director.ensures.tried in
     (
-    turn-before script.head script.lines old c.args.last c.len-count.result all mid c.in_default.ensures.asked next tried
+    turn-before script old c.args.last c.len-count.result all mid c.in_default.ensures.asked next tried
     c.ask_agents-2.new.parts.history.items c.in-Some-ask_agents.at c.in-Some-ask_agents.ensures.asked
     ).1
