@@ -1,0 +1,7 @@
+pub mod Lines
+pub mod Taken
+pub mod Firsts
+pub mod Endings
+pub mod Tries
+pub mod Halts
+pub mod Leads

@@ -1,0 +1,2 @@
+pub mod Director
+pub mod Turns

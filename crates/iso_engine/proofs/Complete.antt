@@ -1,12 +1,15 @@
 -- What came of the bytes that were taken answers for all that the source told; over streams that did not fail a run is complete, but
 -- where memory was wanting.
 use Rattle.std.proofs.Common.{◌≡◌, ℕ, ◌≤◌, ◌+◌, ◌⊎◌, inl, inr, List, [], ◌++◌, length, sym, ap, ◌∙◌, subst, Option, Some, None, length-append, arith}
-use Rattle.std.specs.Io.KnownBytes.{Consumes, IsAtEnd}
+use Rattle.std.specs.Io.KnownBytes.{Appends, Consumes, IsAtEnd}
 use Rattle.std.proofs.lemmas.List.{append-nil}
-use Rattle.iso_first_conduct.proofs.Wholes.{whole}
-use Rattle.iso_engine.specs.Job.{IsAnswered, IsBadWith, IsComplete, IsJudged, IsOutcome, IsScript, IsTold, RefusedWith, Refuses}
+use Rattle.iso_conduct.proofs.Wholes.{whole}
+use Rattle.iso_engine.proofs.Stops.{none-stopped, one-of, unstopped}
+use Rattle.iso_engine.specs.Stopping.{status_of}
+use Rattle.iso_engine.specs.Job.{IsAnswered, IsBadWith, IsComplete, IsJudged, IsOutcome, IsRunOf, IsScript, IsTold, RefusedWith, TellsRun, Refuses}
 use Rattle.iso_history.specs.declared.entry.Entry.{Entry}
 use Rattle.iso_io.specs.Moves.{AppendsPart}
+use Rattle.iso_render.specs.Transcript.{transcript}
 use Rattle.iso_script.proofs.Exact.{not_both, one_script}
 use Rattle.iso_script.specs.Reading.{reads}
 use Rattle.iso_script.specs.declared.script.Script.{Script}
@@ -33,15 +36,33 @@ pub moved : (xs ys : List ℕ) (left : Option (List ℕ)) (status : ℕ) (histor
 moved xs ys left status history old new e o = subst (λ b. IsOutcome b left status history old new) e o
 
 -- what was not read is neither judged nor refused
-unjudged : (status : ℕ) → (status ≡ 3) ⊎ (status ≡ 5) → (status ≡ 0) ⊎ (status ≡ 4) → ⊥
+unjudged : (status : ℕ) → (status ≡ 3) ⊎ (status ≡ 5) → (status ≡ 0) ⊎ ((status ≡ 4) ⊎ (status ≡ 6)) → ⊥
 unjudged s (inl a) (inl b) = let q : 3 ≡ 0 = sym a ∙ b in omega arith
-unjudged s (inl a) (inr b) = let q : 3 ≡ 4 = sym a ∙ b in omega arith
+unjudged s (inl a) (inr (inl b)) = let q : 3 ≡ 4 = sym a ∙ b in omega arith
+unjudged s (inl a) (inr (inr b)) = let q : 3 ≡ 6 = sym a ∙ b in omega arith
 unjudged s (inr a) (inl b) = let q : 5 ≡ 0 = sym a ∙ b in omega arith
-unjudged s (inr a) (inr b) = let q : 5 ≡ 4 = sym a ∙ b in omega arith
+unjudged s (inr a) (inr (inl b)) = let q : 5 ≡ 4 = sym a ∙ b in omega arith
+unjudged s (inr a) (inr (inr b)) = let q : 5 ≡ 6 = sym a ∙ b in omega arith
 
 unrefused : (status : ℕ) → (status ≡ 3) ⊎ (status ≡ 5) → status ≡ 2 → ⊥
 unrefused s (inl a) b = let q : 3 ≡ 2 = sym a ∙ b in omega arith
 unrefused s (inr a) b = let q : 5 ≡ 2 = sym a ∙ b in omega arith
+
+-- nor is a run refused
+picked-unrefused : (history : List Entry) (status : ℕ) → status ≡ status_of history → status ≡ 2
+    → (status_of history ≡ 0) ⊎ ((status_of history ≡ 5) ⊎ (status_of history ≡ 6)) → ⊥
+picked-unrefused history s e z (inl a) = let q : 2 ≡ 0 = sym z ∙ e ∙ a in omega arith
+picked-unrefused history s e z (inr (inl a)) = let q : 2 ≡ 5 = sym z ∙ e ∙ a in omega arith
+picked-unrefused history s e z (inr (inr a)) = let q : 2 ≡ 6 = sym z ∙ e ∙ a in omega arith
+
+told-unrefused : (text : List ℕ) (history : List Entry) (status : ℕ) (old new : Option (List ℕ)) → TellsRun text history status old new → status ≡ 2 → ⊥
+told-unrefused text history status old new (inl t) z = picked-unrefused history status t.0 z (one-of history)
+told-unrefused text history status old new (inr (inl t)) z = let q : 2 ≡ 4 = sym z ∙ t.0 in omega arith
+told-unrefused text history status old new (inr (inr t)) z = let q : 2 ≡ 5 = sym z ∙ t.0 in omega arith
+
+run-unrefused : (script : Script) (status : ℕ) (history : List Entry) (old new : Option (List ℕ)) → IsTold script status history old new → status ≡ 2 → ⊥
+run-unrefused script status history old new (inl r) z = told-unrefused (transcript script history) history status old new r.1 z
+run-unrefused script status history old new (inr r) z = let q : 2 ≡ 5 = sym z ∙ r.1 in omega arith
 
 -- what was taken of all that a source told, and what came of it, answers for all of it
 module _ (a left old new : Option (List ℕ)) (all bytes : List ℕ) (status : ℕ) (history : List Entry)
@@ -55,7 +76,8 @@ module _ (a left old new : Option (List ℕ)) (all bytes : List ℕ) (status : �
   judged-ended : IsOutcome bytes left status history old new → IsJudged status history → left ≡ Some []
   judged-ended (inl r) (inl began) = absurd (began r.3)
   judged-ended (inl r) (inr (inl z)) = absurd (let q : 2 ≡ 0 = sym r.0 ∙ z in omega arith)
-  judged-ended (inl r) (inr (inr z)) = absurd (let q : 2 ≡ 4 = sym r.0 ∙ z in omega arith)
+  judged-ended (inl r) (inr (inr (inl z))) = absurd (let q : 2 ≡ 4 = sym r.0 ∙ z in omega arith)
+  judged-ended (inl r) (inr (inr (inr z))) = absurd (let q : 2 ≡ 6 = sym r.0 ∙ z in omega arith)
   judged-ended (inr (inl u)) (inl began) = absurd (began u.1)
   judged-ended (inr (inl u)) (inr z) = absurd (unjudged status u.0 z)
   judged-ended (inr (inr r)) j = (all-read r.0).1
@@ -76,10 +98,7 @@ module _ (a left old new : Option (List ℕ)) (all bytes : List ℕ) (status : �
   refused-of : IsOutcome bytes left status history old new → status ≡ 2 → (text : List ℕ) × Refuses all text × AppendsPart old new text
   refused-of (inl r) z = (r.1, refuses-all r.1 r.2, r.4)
   refused-of (inr (inl u)) z = absurd (unrefused status u.0 z)
-  refused-of (inr (inr r)) z = absurd (elim r.4.only [
-    | inl s ↦ let q : 2 ≡ 0 = sym z ∙ s in omega arith
-    | inr t ↦ elim t [ inl s ↦ let q : 2 ≡ 4 = sym z ∙ s in omega arith | inr s ↦ let q : 2 ≡ 5 = sym z ∙ s in omega arith ]
-  ])
+  refused-of (inr (inr r)) z = absurd (run-unrefused r.2 status history old new r.4 z)
 
   exact-of : IsOutcome bytes left status history old new → (text : List ℕ) → Refuses all text → (status ≡ 2) ⊎ ((status ≡ 3) ⊎ (status ≡ 5))
   exact-of (inl r) text f = inl r.0
@@ -92,14 +111,22 @@ module _ (a left old new : Option (List ℕ)) (all bytes : List ℕ) (status : �
   answered = record { ended = judged-ended o; headline = headline-of o; refused = refused-of o; exact = exact-of o }
 
 -- a run whose transcript is written whole is complete
-told-complete : (script : Script) (status : ℕ) (history : List Entry) (left old new : Option (List ℕ)) → left ≡ Some []
-    → (status ≡ 4 → ⊥) → IsTold script status history old new → IsComplete script status history left old new ⊎ (status ≡ 5)
-told-complete script status history left old new end sink t = go t.only
-  where
-    go : (status ≡ 0) ⊎ (status ≡ 4) ⊎ (status ≡ 5) → IsComplete script status history left old new ⊎ (status ≡ 5)
-    go (inl z) = inl (z, end, t.whole z, whole script history t.legal (t.finished (λ f. let q : 5 ≡ 0 = sym f ∙ z in absurd (cc))))
-    go (inr (inl f)) = absurd (sink f)
-    go (inr (inr f)) = inr f
+module _ (script : Script) (status : ℕ) (history : List Entry) (left old new : Option (List ℕ)) (end : left ≡ Some []) (sink : status ≡ 4 → ⊥) where
+  abbrev Ends : Type 0
+  Ends = IsComplete script status history left old new ⊎ (status ≡ 5)
+
+  picked-complete : IsRunOf script history → status ≡ status_of history → Appends old new (transcript script history)
+      → (status_of history ≡ 0) ⊎ ((status_of history ≡ 5) ⊎ (status_of history ≡ 6)) → Ends
+  picked-complete r e a (inl z) =
+      inl (end, a, inl (e ∙ z, whole script history r.legal r.finished (unstopped script.head history (none-stopped history z))))
+  picked-complete r e a (inr (inl f)) = inr (e ∙ f)
+  picked-complete r e a (inr (inr s)) = inl (end, a, inr (e ∙ s))
+
+  told-complete : IsTold script status history old new → Ends
+  told-complete (inl (r, inl t)) = picked-complete r t.0 t.1 (one-of history)
+  told-complete (inl (r, inr (inl t))) = absurd (sink t.0)
+  told-complete (inl (r, inr (inr t))) = inr t.0
+  told-complete (inr t) = inr t.1
 
 -- a script that a source told, and that neither stream kept back, is run and told whole
 pub complete : (a left old new : Option (List ℕ)) (all bytes : List ℕ) (status : ℕ) (history : List Entry)

@@ -1,12 +1,4 @@
-pub mod Ways
-pub mod Turns
-pub mod Ends
-pub mod Lines
-pub mod Fitting
-pub mod Carry
-pub mod Looks
-pub mod Start
-pub mod Bounded
 pub mod Words
+pub mod Stops
 pub mod Outcomes
 pub mod Complete

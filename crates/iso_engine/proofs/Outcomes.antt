@@ -1,32 +1,11 @@
 -- What the answers of the program come to.
-use Rattle.std.proofs.Common.{rules, ◌≡◌, ℕ, ◌≤◌, ◌⊎◌, inl, inr, List, [], length, refl, sym, subst, Option, arith}
+use Rattle.std.proofs.Common.{◌≡◌, ℕ, ◌≤◌, ◌⊎◌, inl, inr, List, [], length, refl, Option}
 use Rattle.std.specs.Io.KnownBytes.{Appends, IsAtEnd}
-use Rattle.iso_first_conduct.specs.Legal.{IsLegal}
-use Rattle.iso_engine.proofs.Ends.{legal-of, so-far}
-use Rattle.iso_engine.proofs.Start.{starts}
-use Rattle.iso_engine.specs.Job.{IsOutcome, IsRefusal, IsTold, IsWritten, TellsRefusal, refusal_at, too_long}
+use Rattle.iso_engine.specs.Job.{IsOutcome, IsRefusal, IsWritten, TellsRefusal, refusal_at, too_long}
 use Rattle.iso_history.specs.declared.entry.Entry.{Entry}
 use Rattle.iso_io.specs.Moves.{AppendsPart}
-use Rattle.iso_script.specs.Built.{IsBuilt}
 use Rattle.iso_script.specs.Reading.{bad}
 use Rattle.iso_script.specs.declared.fault.LineCause.{LineCause}
-use Rattle.iso_script.specs.declared.script.Script.{Script}
-
--- the empty history is legal
-pub legal_at_start : (script : Script) → IsBuilt script → IsLegal script []
-legal_at_start script b = legal-of script [] b.conns (so-far _ _ _ _ (starts script.head script.lines b.closed).way)
-
--- no run began for want of memory
-pub untold : (script : Script) (status : ℕ) (history : List Entry) (old : Option (List ℕ)) → IsBuilt script → status ≡ 5 → history ≡ []
-    → IsTold script status history old old
-untold script status history old b s h = record {
-  legal = subst (λ es. IsLegal script es) (sym h) (legal_at_start script b);
-  finished = λ n. absurd (n s);
-  whole = λ z. absurd (let q : 5 ≡ 0 = subst (λ n. n ≡ 0) s z in omega arith);
-  part = λ z. absurd (let q : 5 ≡ 4 = subst (λ n. n ≡ 4) s z in omega arith);
-  none = λ z. search rules;
-  only = inr (inr s);
-}
 
 -- a refusal at a bad line, of bytes behind which none is left, is an outcome
 pub refusal-outcome : (bytes : List ℕ) (n : ℕ) (why : LineCause) (status : ℕ) (history : List Entry) (old new : Option (List ℕ))

@@ -1,14 +1,16 @@
 -- The words of the command line, and what a run of the program answers and writes.
-use Rattle.std.specs.Prelude.{◌≡◌, ℕ, ◌≤◌, ◌⊎◌, List, [], ◌∷◌, ◌++◌, length, Option, Some, String, codes, string_bytes, map}
+use Rattle.std.specs.Prelude.{◌≡◌, ℕ, ◌≤◌, ◌⊎◌, List, [], ◌∷◌, ◌++◌, length, None, Option, Some, String, codes, string_bytes, map}
 use Rattle.std.specs.Fmt.{decimal}
 use Rattle.std.specs.Global.{Global}
 use Rattle.std.specs.Io.KnownBytes.{Appends, IsAtEnd}
-use Rattle.iso_first_conduct.specs.Legal.{IsFinished, IsLegal}
-use Rattle.iso_first_conduct.specs.Whole.{IsWhole}
+use Rattle.iso_conduct.specs.Legal.{AreGuarded, IsFinished, IsLegal}
+use Rattle.iso_conduct.specs.Schedule.{Scheduled}
+use Rattle.iso_conduct.specs.Whole.{IsWhole}
+use Rattle.iso_engine.specs.Stopping.{status_of}
 use Rattle.iso_history.specs.declared.entry.Entry.{Entry}
 use Rattle.iso_io.specs.Moves.{AppendsPart}
 use Rattle.iso_render.specs.Transcript.{transcript}
-use Rattle.iso_script.specs.Reading.{bad, reads}
+use Rattle.iso_script.specs.Reading.{bad, place_at, reads, word_of}
 use Rattle.iso_script.specs.declared.fault.LineCause.{LineCause}
 use Rattle.iso_script.specs.declared.fault.LineCause.TheVariants as cause
 use Rattle.iso_script.specs.declared.script.Script.{Script}
@@ -25,27 +27,9 @@ IsRow words = words ≡ codes "serial" ∷ []
 abbrev pub usage : List ℕ
 usage = codes "USAGE\n"
 
--- how a cause prints
-abbrev pub cause_word : LineCause → List ℕ
-cause_word (cause.Syntax p) = codes "SYNTAX"
-cause_word (cause.Unknown p) = codes "UNKNOWN"
-cause_word (cause.TypeFault p) = codes "TYPE"
-cause_word (cause.Duplicate p) = codes "DUPLICATE"
-cause_word (cause.Limit p) = codes "LIMIT"
-cause_word cause.Unbuilt = codes "UNBUILT"
-
--- where it is, in bytes of its line from 1
-abbrev pub cause_place : LineCause → ℕ
-cause_place (cause.Syntax p) = p
-cause_place (cause.Unknown p) = p
-cause_place (cause.TypeFault p) = p
-cause_place (cause.Duplicate p) = p
-cause_place (cause.Limit p) = p
-cause_place cause.Unbuilt = 1
-
 -- what a script is refused with at its first bad line, for this cause
 abbrev pub refusal_at : ℕ → LineCause → List ℕ
-refusal_at n why = codes "LINE " ++ decimal n ++ codes " " ++ cause_word why ++ codes " AT " ++ decimal (cause_place why) ++ codes "\n"
+refusal_at n why = codes "LINE " ++ decimal n ++ codes " " ++ word_of why ++ codes " AT " ++ decimal (place_at why) ++ codes "\n"
 
 -- what a script of too many bytes is refused with
 abbrev pub too_long : List ℕ
@@ -64,15 +48,23 @@ RefusedWith bytes left text =
 abbrev pub Refuses : List ℕ → List ℕ → Type 0
 Refuses all text = ((1048577 ≤ length all) × (text ≡ too_long)) ⊎ ((length all ≤ 1048576) × IsBadWith all text)
 
--- what a run of the script leaves: its history is legal; it ends with Finish but where memory was wanting; all of its transcript is
--- written, or a part where the sink failed, or nothing where memory was wanting
-pub record IsTold (script : Script) (status : ℕ) (history : List Entry) (old new : Option (List ℕ)) : Type 0 where
+-- a run that began: its history is legal and that of the serial schedule, guarded in all five ways, and ends with Finish
+pub record IsRunOf (script : Script) (history : List Entry) : Type 0 where
   pub legal : IsLegal script history
-  pub finished : (status ≡ 5 → ⊥) → IsFinished history
-  pub whole : status ≡ 0 → Appends old new (transcript script history)
-  pub part : status ≡ 4 → AppendsPart old new (transcript script history)
-  pub none : status ≡ 5 → Appends old new []
-  pub only : (status ≡ 0) ⊎ (status ≡ 4) ⊎ (status ≡ 5)
+  pub scheduled : Scheduled script.head script.lines None history
+  pub guarded : AreGuarded script history
+  pub finished : IsFinished history
+
+-- what such a run has written: the whole transcript, with the status that its stops give; a part of it, where the sink failed; or
+-- nothing, where there was no memory for it
+abbrev pub TellsRun : List ℕ → List Entry → ℕ → Option (List ℕ) → Option (List ℕ) → Type 0
+TellsRun text history status old new =
+    ((status ≡ status_of history) × Appends old new text) ⊎ (((status ≡ 4) × AppendsPart old new text) ⊎ ((status ≡ 5) × Appends old new []))
+
+-- what a run of the script leaves: the history and what is written of it; or nothing, where memory was wanting before its first entry
+abbrev pub IsTold : Script → ℕ → List Entry → Option (List ℕ) → Option (List ℕ) → Type 0
+IsTold script status history old new =
+    (IsRunOf script history × TellsRun (transcript script history) history status old new) ⊎ ((history ≡ []) × (status ≡ 5) × Appends old new [])
 
 -- the script was refused
 abbrev pub IsRefused : List ℕ → Option (List ℕ) → ℕ → List Entry → Option (List ℕ) → Option (List ℕ) → Type 0
@@ -95,7 +87,7 @@ IsOutcome bytes left status history old new =
 
 -- the bytes were judged as a script: its run began, or the answer is that of a script that was run
 abbrev pub IsJudged : ℕ → List Entry → Type 0
-IsJudged status history = (history ≡ [] → ⊥) ⊎ ((status ≡ 0) ⊎ (status ≡ 4))
+IsJudged status history = (history ≡ [] → ⊥) ⊎ ((status ≡ 0) ⊎ ((status ≡ 4) ⊎ (status ≡ 6)))
 
 -- what is said of all the bytes that a source told, not only of those that were taken. `ended`: where they were judged, none is
 -- left. `headline`: whatever script they read as, where its run began, its history is legal, and the bytes written are its
@@ -107,10 +99,10 @@ pub record IsAnswered (all : List ℕ) (left : Option (List ℕ)) (status : ℕ)
   pub refused : status ≡ 2 → (text : List ℕ) × Refuses all text × AppendsPart old new text
   pub exact : (text : List ℕ) → Refuses all text → (status ≡ 2) ⊎ ((status ≡ 3) ⊎ (status ≡ 5))
 
--- the source was read to its end, all of the transcript is written, and every statement is answered
+-- the source was read to its end, and all of the transcript is written; with status 0 every line is answered
 abbrev pub IsComplete : Script → ℕ → List Entry → Option (List ℕ) → Option (List ℕ) → Option (List ℕ) → Type 0
 IsComplete script status history left old new =
-    (status ≡ 0) × (left ≡ Some []) × Appends old new (transcript script history) × IsWhole script history
+    (left ≡ Some []) × Appends old new (transcript script history) × (((status ≡ 0) × IsWhole script history) ⊎ (status ≡ 6))
 
 -- bytes that are no more than a script may have, and read as this script
 abbrev pub IsScript : List ℕ → Script → Type 0

@@ -1,4 +1,2 @@
-pub mod UnderWay
-pub mod Runnable
-pub mod Scans
+pub mod Stopping
 pub mod Job

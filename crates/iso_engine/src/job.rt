@@ -1,18 +1,21 @@
 ghost use Rattle.std.specs.Prelude.{◌≡◌, ℕ, ◌≤◌, ◌⊎◌, Some, Option, ◌↔◌, List, [], ◌∷◌, ◌++◌, string_bytes, length, true, IsTrue, IfOk, codes};
 ghost use Rattle.std.specs.Fmt.{decimal};
 ghost use Rattle.std.specs.Io.KnownBytes.{Appends, Consumes, IsAtEnd};
-ghost use Rattle.iso_engine.specs.Job as spec;
 ghost use Rattle.iso_engine.specs.Job.{IsAnswered, IsComplete, IsOutcome, IsRefusal, IsRow, IsScript, IsTold, TellsRefusal, IsWritten, refusal_at, texts, usage};
 ghost use Rattle.iso_io.specs.Moves.{AppendsPart, HasRisen};
 ghost use Rattle.iso_script.specs.Built.{IsBuilt};
-ghost use Rattle.iso_script.specs.Numbered.{rises_above};
+ghost use Rattle.iso_script.specs.Reading.{place_at, word_of};
+ghost use Rattle.iso_script.specs.Sound.{IsSound};
+ghost use Rattle.iso_engine.specs.Stopping as stopping;
+ghost use Rattle.iso_history.specs.Paces.{is_stop};
+ghost use Rattle.iso_conduct.specs.Conduct.{stops_for_memory as is_memory_stop};
 ghost use Rattle.iso_script.specs.declared.script.Script.{Script as Program};
 
-use crate::run::{SerialRun, run_serial};
-use iso_history::History;
+use iso_history::{Act, Cause, Entry, History};
 use iso_io::{ReadFault, Sink, Source, read_script, write_whole};
 use iso_render::transcript;
 use iso_script::{LineCause, Script, ScriptFault};
+use iso_serial::run_serial;
 use iso_types::Gate;
 use std::alloc::{AllocError, Global};
 use std::sync::Wait;
@@ -35,34 +38,6 @@ fn is_row(words: &[String]) -> bool
     }
 }
 
-/// How a cause prints.
-fn cause_word(cause: LineCause) -> &'static str
-    ensures { result.now ≡ spec.cause_word cause }
-{
-    match cause {
-        LineCause::Syntax(_) => "SYNTAX",
-        LineCause::Unknown(_) => "UNKNOWN",
-        LineCause::TypeFault(_) => "TYPE",
-        LineCause::Duplicate(_) => "DUPLICATE",
-        LineCause::Limit(_) => "LIMIT",
-        LineCause::Unbuilt => "UNBUILT",
-    }
-}
-
-/// Where it is, in bytes of its line from 1.
-fn cause_place(cause: LineCause) -> u32
-    ensures { result ≡ spec.cause_place cause }
-{
-    match cause {
-        LineCause::Syntax(place)
-        | LineCause::Unknown(place)
-        | LineCause::TypeFault(place)
-        | LineCause::Duplicate(place)
-        | LineCause::Limit(place) => place,
-        LineCause::Unbuilt => 1,
-    }
-}
-
 /// The line of a refusal.
 fn refusal_line(alloc: Global, line: u32, word: &str, place: u32) -> Result<String, AllocError>
     ensures { IfOk result (λ text. string_bytes text ≡ codes "LINE " ++ decimal line ++ codes " " ++ word.now ++ codes " AT " ++ decimal place ++ codes "\n") }
@@ -78,7 +53,8 @@ fn refusal_line(alloc: Global, line: u32, word: &str, place: u32) -> Result<Stri
 fn refusal(alloc: Global, line: u32, cause: LineCause) -> Result<String, AllocError>
     ensures { IfOk result (λ text. string_bytes text ≡ refusal_at line cause) }
 {
-    refusal_line(alloc, line, cause_word(cause), cause_place(cause))
+    let (word, place) = cause.word_and_place();
+    refusal_line(alloc, line, word, place)
 }
 
 /// A report without a run.
@@ -92,26 +68,73 @@ fn without_run(status: u8, alloc: Global) -> Report
     }
 }
 
+/// The exit status of a run by the stops in its history: 5 where somebody stopped for want of memory, else 6 where somebody
+/// stopped at a limit, else 0. It looks at each entry.
+fn status_of(entries: &[Entry]) -> u8
+    ensures { result ≡ stopping.status_of entries.now }
+{
+    if has_memory_stop(entries) {
+        5
+    } else if has_stop(entries) {
+        6
+    } else {
+        0
+    }
+}
+
+/// Whether somebody stopped, for whatever cause.
+fn has_stop(entries: &[Entry]) -> bool
+    ensures { result ≡ stopping.has_stop entries.now }
+{
+    entries.iter().any(|entry| stops(&entry.act))
+}
+
+/// Whether somebody stopped for want of memory.
+fn has_memory_stop(entries: &[Entry]) -> bool
+    ensures { result ≡ stopping.has_memory_stop entries.now }
+{
+    entries.iter().any(|entry| stops_for_memory(&entry.act))
+}
+
+/// Whether it is a stop, for whatever cause.
+fn stops(act: &Act) -> bool
+    ensures { result ≡ is_stop act.now }
+{
+    matches!(act, Act::Stopped { .. })
+}
+
+/// Whether it is a stop for want of memory.
+fn stops_for_memory(act: &Act) -> bool
+    ensures { result ≡ is_memory_stop act.now }
+{
+    matches!(
+        act,
+        Act::Stopped {
+            cause: Cause::Memory
+        }
+    )
+}
+
 /// Runs a script and writes its transcript.
 fn run_script<K: Sink>(alloc: Global, script: &Script, sink: &mut K) -> Report
+    requires sound { IsSound script.now }
     requires built { IsBuilt script.now }
-    requires rising { rises_above 0 script.now.lines ≡ true }
     ensures told { IsTold script.now result.status result.history.items (K.held sink.old) (K.held sink.new) }
     ensures fault { result.status ≡ 4 → HasRisen (K.faults sink.old) (K.faults sink.new) }
 {
-    let SerialRun { history, finished } = match run_serial(alloc, script, None) {
-        Ok(run) => run,
+    let history = match run_serial(alloc, script) {
+        Ok(history) => history,
         Err(_) => return without_run(5, alloc),
     };
-    if !finished {
-        return Report { status: 5, history };
-    }
     let text = match transcript(alloc, script, &history) {
         Ok(text) => text,
         Err(_) => return Report { status: 5, history },
     };
     match write_whole(sink, text.as_slice()) {
-        Ok(()) => Report { status: 0, history },
+        Ok(()) => {
+            let status = status_of(history.as_slice());
+            Report { status, history }
+        }
         Err(_) => Report { status: 4, history },
     }
 }
@@ -150,9 +173,10 @@ fn run_bytes<K: Sink>(alloc: Global, bytes: &[u8], sink: &mut K) -> Report
 /// transcript to the sink.
 ///
 /// Status 1: the words are not the one word `serial`. 3: the source failed. 2: the script is refused, at its first
-/// bad line or for its length. 4: the sink failed. 5: memory was wanting. 0: all is written. Where several hold, the
-/// first of these is answered. It takes one pass over the bytes, time for each entry of the history, and one pass over
-/// the history; `rt` and the gate are for jobs on threads.
+/// bad line or for its length. 4: the sink failed. 5: memory was wanting: before the run or for its transcript, and then
+/// nothing is written, or somebody stopped for it in the run. 6: somebody stopped at the limit of the history or of a
+/// table. 0: every line is answered. Where several hold, the first of these is answered. It takes one pass over the bytes,
+/// time for each entry of the history, and two passes over the history; `rt` and the gate are for jobs on threads.
 pub fn db2iso<R: Threads + Wait + Sync, S: Source, K: Sink, G: Gate + Sync>(
     rt: &R,
     alloc: Global,

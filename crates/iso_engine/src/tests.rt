@@ -111,15 +111,97 @@ const CASES: [(&[&str], &[u8], &[u8], u8); 25] = [
     ),
     (
         &["serial"],
-        b"DB2ISO 1\nTABLE T (N INTEGER)\nCONNECT A\nBEGIN\nA: DELETE FROM T\nA: COMMIT\nEND\n",
+        b"DB2ISO 1\nTABLE T (N INTEGER)\nCONNECT A\nBEGIN\nA: DELETE FROM T WITH RR\nA: COMMIT\nEND\n",
         b"LINE 5 UNBUILT AT 1\n",
         2,
     ),
     (
         &["serial"],
         b"DB2ISO 1\nTABLE T (N INTEGER)\nCONNECT A\nBEGIN\nA: INSERT INTO T VALUES (7)\nEND\n",
-        b"LINE 6 UNBUILT AT 1\n",
-        2,
+        b"5 A SQLCODE 0 ROWS 1\nEND\n",
+        0,
+    ),
+];
+
+// Scripts of several connections, and of every statement, as CASES.
+const WORKED: [(&[&str], &[u8], &[u8], u8); 13] = [
+    (
+        &["serial"],
+        b"DB2ISO 1\nTABLE T (ID INTEGER NOT NULL, V INTEGER)\nROW T (1, 100)\nROW T (2, 200)\nCONNECT A\nCONNECT B\nBEGIN\nA: UPDATE T SET V = 110 WHERE ID = 1\nB: SELECT V FROM T WHERE ID = 1\nA: COMMIT\nB: SELECT V FROM T WHERE ID = 1\nEND\n",
+        b"8 A SQLCODE 0 ROWS 1\n9 B ROW 100\n9 B SQLCODE 0\n10 A SQLCODE 0\n11 B ROW 110\n11 B SQLCODE 0\nEND\n",
+        0,
+    ),
+    (
+        &["serial"],
+        b"DB2ISO 1\nCONFIG CUR_COMMIT DISABLED\nTABLE T (ID INTEGER NOT NULL, V INTEGER)\nROW T (1, 100)\nROW T (2, 200)\nCONNECT A\nCONNECT B\nBEGIN\nA: UPDATE T SET V = 110 WHERE ID = 1\nB: SELECT V FROM T WHERE ID = 1\nA: COMMIT\nB: SELECT V FROM T WHERE ID = 1\nEND\n",
+        b"9 A SQLCODE 0 ROWS 1\n10 B WAITS NS ROW T 0\n11 A SQLCODE 0\n10 B ROW 110\n10 B SQLCODE 0\n12 B ROW 110\n12 B SQLCODE 0\nEND\n",
+        0,
+    ),
+    (
+        &["serial"],
+        b"DB2ISO 1\nTABLE T (ID INTEGER NOT NULL, V INTEGER)\nROW T (1, 100)\nROW T (2, 200)\nCONNECT A\nCONNECT B\nBEGIN\nA: UPDATE T SET V = 110 WHERE ID = 1\nB: SELECT V FROM T WHERE ID = 1 WITH UR\nA: ROLLBACK\nB: SELECT V FROM T WHERE ID = 1 WITH UR\nEND\n",
+        b"8 A SQLCODE 0 ROWS 1\n9 B ROW 110\n9 B SQLCODE 0\n10 A SQLCODE 0\n11 B ROW 100\n11 B SQLCODE 0\nEND\n",
+        0,
+    ),
+    (
+        &["serial"],
+        b"DB2ISO 1\nCONFIG CUR_COMMIT DISABLED\nTABLE T (ID INTEGER NOT NULL, V INTEGER)\nROW T (1, 100)\nROW T (2, 200)\nCONNECT A\nCONNECT B\nBEGIN\nA: UPDATE T SET V = 110 WHERE ID = 1\nB: SELECT V FROM T WHERE ID = 1 WITH UR\nA: ROLLBACK\nB: SELECT V FROM T WHERE ID = 1 WITH UR\nEND\n",
+        b"9 A SQLCODE 0 ROWS 1\n10 B ROW 110\n10 B SQLCODE 0\n11 A SQLCODE 0\n12 B ROW 100\n12 B SQLCODE 0\nEND\n",
+        0,
+    ),
+    (
+        &["serial"],
+        b"DB2ISO 1\nTABLE T (ID INTEGER NOT NULL, V INTEGER)\nROW T (1, 100)\nROW T (2, 200)\nCONNECT A\nCONNECT B\nBEGIN\nA: INSERT INTO T VALUES (3, 300)\nA: SAVEPOINT S1\nA: DELETE FROM T WHERE ID = 3\nA: ROLLBACK TO SAVEPOINT S1\nA: UPDATE T SET V = 301 WHERE ID = 3\nB: SELECT ID FROM T\nA: SELECT V FROM T WHERE ID = 3\nA: ROLLBACK TO SAVEPOINT S2\nEND\n",
+        b"8 A SQLCODE 0 ROWS 1\n9 A SQLCODE 0\n10 A SQLCODE 0 ROWS 1\n11 A SQLCODE 0\n12 A SQLCODE 0 ROWS 1\n13 B ROW 1\n13 B ROW 2\n13 B SQLCODE 0\n14 A ROW 301\n14 A SQLCODE 0\n15 A SQLCODE -880\nEND\n",
+        0,
+    ),
+    (
+        &["serial"],
+        b"DB2ISO 1\nTABLE T (ID INTEGER NOT NULL, V INTEGER)\nROW T (1, 100)\nROW T (2, 200)\nCONNECT A\nCONNECT B RS\nBEGIN\nB: SELECT V FROM T WHERE ID = 1\nA: INSERT INTO T VALUES (1, 500)\nA: COMMIT\nB: SELECT V FROM T WHERE ID = 1\nA: UPDATE T SET V = 0 WHERE ID = 1\nB: COMMIT\nEND\n",
+        b"8 B ROW 100\n8 B SQLCODE 0\n9 A SQLCODE 0 ROWS 1\n10 A SQLCODE 0\n11 B ROW 100\n11 B ROW 500\n11 B SQLCODE 0\n12 A WAITS X ROW T 0\n13 B SQLCODE 0\n12 A SQLCODE 0 ROWS 2\nEND\n",
+        0,
+    ),
+    (
+        &["serial"],
+        b"DB2ISO 1\nCONFIG CUR_COMMIT DISABLED\nTABLE T (ID INTEGER NOT NULL, V INTEGER)\nROW T (1, 100)\nROW T (2, 200)\nCONNECT A\nCONNECT B RS\nBEGIN\nB: SELECT V FROM T WHERE ID = 1\nA: INSERT INTO T VALUES (1, 500)\nA: COMMIT\nB: SELECT V FROM T WHERE ID = 1\nA: UPDATE T SET V = 0 WHERE ID = 1\nB: COMMIT\nEND\n",
+        b"9 B ROW 100\n9 B SQLCODE 0\n10 A SQLCODE 0 ROWS 1\n11 A SQLCODE 0\n12 B ROW 100\n12 B ROW 500\n12 B SQLCODE 0\n13 A WAITS X ROW T 0\n14 B SQLCODE 0\n13 A SQLCODE 0 ROWS 2\nEND\n",
+        0,
+    ),
+    (
+        &["serial"],
+        b"DB2ISO 1\nCONFIG LOGMAX 3\nTABLE T (ID INTEGER NOT NULL, V INTEGER)\nROW T (1, 100)\nROW T (2, 200)\nCONNECT A\nBEGIN\nA: UPDATE T SET V = 0\nA: UPDATE T SET V = 0 WHERE ID = 1\nA: COMMIT\nA: UPDATE T SET V = 0 WHERE ID = 1\nEND\n",
+        b"8 A SQLCODE -964\n9 A SQLCODE -964\n10 A SQLCODE 0\n11 A SQLCODE 0 ROWS 1\nEND\n",
+        0,
+    ),
+    (
+        &["serial"],
+        b"DB2ISO 1\nTABLE T (ID INTEGER NOT NULL, V INTEGER)\nROW T (1, 100)\nROW T (2, NULL)\nCONNECT A\nCONNECT B\nBEGIN\nA: INSERT INTO T VALUES (NULL, 1)\nA: SELECT ID FROM T WHERE NOT V = 7\nA: SELECT * FROM T\nA: UPDATE T SET V = 5\nB: DELETE FROM T\nB: COMMIT\nA: COMMIT\nEND\n",
+        b"8 A SQLCODE -407\n9 A ROW 1\n9 A SQLCODE 0\n10 A ROW 1, 100\n10 A ROW 2, NULL\n10 A SQLCODE 0\n11 A SQLCODE 0 ROWS 2\n12 B WAITS U ROW T 0\n13 B BUSY\n14 A SQLCODE 0\n12 B SQLCODE 0 ROWS 2\nEND\n",
+        0,
+    ),
+    (
+        &["serial"],
+        b"DB2ISO 1\nTABLE T (ID INTEGER NOT NULL, V INTEGER)\nROW T (1, 100)\nCONNECT A\nBEGIN\nA: INSERT INTO T VALUES (3, 300)\nA: SAVEPOINT S1\nA: DELETE FROM T WHERE ID = 3\nA: ROLLBACK TO SAVEPOINT S1\nA: UPDATE T SET V = V + 1 WHERE ID = 3\nA: SELECT V FROM T WITH UR\nA: ROLLBACK\nA: SELECT V FROM T WITH UR\nA: ROLLBACK TO SAVEPOINT S1\nEND\n",
+        b"6 A SQLCODE 0 ROWS 1\n7 A SQLCODE 0\n8 A SQLCODE 0 ROWS 1\n9 A SQLCODE 0\n10 A SQLCODE 0 ROWS 1\n11 A ROW 100\n11 A ROW 301\n11 A SQLCODE 0\n12 A SQLCODE 0\n13 A ROW 100\n13 A SQLCODE 0\n14 A SQLCODE -880\nEND\n",
+        0,
+    ),
+    (
+        &["serial"],
+        b"DB2ISO 1\nCONFIG CUR_COMMIT DISABLED\nTABLE T (V INTEGER)\nROW T (100)\nCONNECT A RS\nCONNECT B RS\nBEGIN\nA: SELECT V FROM T\nB: SELECT V FROM T\nA: UPDATE T SET V = 1\nB: UPDATE T SET V = 2\nA: COMMIT\nEND\n",
+        b"8 A ROW 100\n8 A SQLCODE 0\n9 B ROW 100\n9 B SQLCODE 0\n10 A WAITS X ROW T 0\n11 B WAITS U ROW T 0\n11 B SQLCODE -911 REASON 2\n10 A SQLCODE 0 ROWS 1\n12 A SQLCODE 0\nEND\n",
+        0,
+    ),
+    (
+        &["serial"],
+        b"DB2ISO 1\nCONFIG WINDOW 4\nTABLE T (V INTEGER)\nROW T (10)\nROW T (20)\nCONNECT A\nCONNECT B\nBEGIN\nA: UPDATE T SET V = 0\nA: UPDATE T SET V = V + 1\nB: SELECT V FROM T\nA: UPDATE T SET V = V + 1\nB: SELECT V FROM T\nA: COMMIT\nEND\n",
+        b"9 A SQLCODE 0 ROWS 2\n10 A SQLCODE 0 ROWS 2\n11 B ROW 10\n11 B ROW 20\n11 B SQLCODE 0\n12 A SQLCODE 0 ROWS 2\n13 B WAITS NS ROW T 0\n14 A SQLCODE 0\n13 B ROW 2\n13 B ROW 2\n13 B SQLCODE 0\nEND\n",
+        0,
+    ),
+    (
+        &["serial"],
+        b"DB2ISO 1\nCONFIG LOCKLIST 4\nCONFIG MAXLOCKS 1\nTABLE T (ID INTEGER NOT NULL, V INTEGER)\nROW T (1, 100)\nROW T (2, 200)\nCONNECT A\nBEGIN\nA: UPDATE T SET V = 0\nA: LOCK TABLE T IN EXCLUSIVE MODE\nA: UPDATE T SET V = 0\nEND\n",
+        b"9 A SQLCODE -912\n10 A SQLCODE 0\n11 A SQLCODE 0 ROWS 2\nEND\n",
+        0,
     ),
 ];
 
@@ -187,7 +269,7 @@ fn writer_fails<R: Threads + Wait + Sync + AllocGlobal>(
     let mut from = source(rt, FIRST, 4096, &[])?;
     let mut to = SinkStd::new(Failing(count));
     let told = answer(rt, &["serial"], &mut from, &mut to)?;
-    Ok(told.0 == 4 && told.1 == 12)
+    Ok(told.0 == 4 && told.1 == 14)
 }
 
 // A source of these bytes, so many a call, whose listed calls fail.
@@ -260,9 +342,15 @@ fn scripts_give_their_output(rt: HostRuntime) -> Result<(), Fail> {
             );
         }
     }
+    for (words, script, output, status) in WORKED {
+        assert!(rt;
+            gives(&rt, words, script, output, status, 4096)?,
+            "{script:?}"
+        );
+    }
     let mut from = source(&rt, FIRST, 4096, &[])?;
     let mut to = sink(&rt, 4096, &[])?;
-    assert_eq!(rt; answer(&rt, &["serial"], &mut from, &mut to)?, (0, 12));
+    assert_eq!(rt; answer(&rt, &["serial"], &mut from, &mut to)?, (0, 14));
     Ok(())
 }
 

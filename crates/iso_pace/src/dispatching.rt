@@ -109,8 +109,8 @@ fn start(parts: &mut Parts, line: u32, conn: Conn) -> Result<(), StepFault>
 /// Takes a line of a statement; `free`: it stands behind `&`. `Done`: the statement begins, and a unit of work where none is
 /// open; `Busy`: the connection waits for another one, and the line is passed over; `NotQuiet`: the line is not taken yet,
 /// since not all is quiet or, behind `&`, since its connection is neither idle nor waits outside every deadlock; `Stopping`:
-/// somebody stopped. `HistoryFull`: its entry would be full. After a fault all is as before. Without `&` it asks the lock list
-/// once for each connection. (This project's own.)
+/// somebody stopped. `HistoryFull`: its entry would be full. A fault comes only where the line was to be taken, and leaves all as
+/// it was. Without `&` it asks the lock list once for each connection. (This project's own.)
 pub fn dispatch(parts: &mut Parts, line: u32, conn: Conn, free: bool) -> Result<Paced, StepFault>
     requires stands { StandsFor parts.old }
     requires open { (world_of parts.old).pace.finished ≡ false }
@@ -123,6 +123,7 @@ pub fn dispatch(parts: &mut Parts, line: u32, conn: Conn, free: bool) -> Result<
         → option_map_or (λ a. is_full parts.old.head (world_of parts.old) (by_dispatcher a)) (line_step parts.old.head (world_of parts.old) line conn free) false ≡ true }
     ensures ok { OnOk result (parts.new.history.items ≡ parts.old.history.items ++ taken (line_step parts.old.head (world_of parts.old) line conn free)) }
     ensures err { OnErr result (content_of parts.new ≡ content_of parts.old) }
+    ensures due { OnErr result (is_some (line_step parts.old.head (world_of parts.old) line conn free) ≡ true) }
 {
     if parts.pace.stopped {
         return Ok(Paced::Stopping);

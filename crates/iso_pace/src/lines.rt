@@ -127,7 +127,8 @@ fn expire_wait(parts: &mut Parts, line: u32, conn: Conn)
 
 /// Takes a line EXPIRE. `Done`: the connection waited, and has to roll back with -911 and reason 68; `NoEffect`: it did not
 /// wait; `NotQuiet`, `Stopping`: the line is not taken, since not all is quiet, or somebody stopped. `HistoryFull`: its entry
-/// would be full; never where the connection waits. After a fault all is as before. Db2 LUW, 'SQLCODE -911'.
+/// would be full; never where the connection waits. A fault comes only where the line was to be taken, and leaves all as it was.
+/// Db2 LUW, 'SQLCODE -911'.
 pub fn expire(parts: &mut Parts, line: u32, conn: Conn) -> Result<Paced, StepFault>
     requires stands { StandsFor parts.old }
     requires open { (world_of parts.old).pace.finished ≡ false }
@@ -139,6 +140,7 @@ pub fn expire(parts: &mut Parts, line: u32, conn: Conn) -> Result<Paced, StepFau
     ensures full { result ≡ Err StepFault.HistoryFull → is_full parts.old.head (world_of parts.old) (by_dispatcher (Acts.Expire line conn (is_phase (phase (world_of parts.old) conn) Phases.Waiting))) ≡ true }
     ensures ok { OnOk result (parts.new.history.items ≡ parts.old.history.items ++ (if is_taken (expired parts.old.head (world_of parts.old) conn) then by_dispatcher (Acts.Expire line conn (is_phase (phase (world_of parts.old) conn) Phases.Waiting)) ∷ [] else [])) }
     ensures err { OnErr result (content_of parts.new ≡ content_of parts.old) }
+    ensures due { OnErr result (is_taken (expired parts.old.head (world_of parts.old) conn) ≡ true) }
 {
     if parts.pace.stopped {
         return Ok(Paced::Stopping);
@@ -195,8 +197,8 @@ fn show(parts: &mut Parts, line: u32, locks: Items<LockLine>) -> Result<(), Step
 }
 
 /// Takes a line SNAPSHOT. `Done`: all holds and waits are recorded; `NotQuiet`, `Stopping`: the line is not taken, since not
-/// all is quiet, or somebody stopped. `HistoryFull`: its entry would be full. After a fault all is as before. It sorts the
-/// names. Db2 LUW, 'MON_GET_LOCKS'.
+/// all is quiet, or somebody stopped. `HistoryFull`: its entry would be full. A fault comes only where the line was to be
+/// taken, and leaves all as it was. It sorts the names. Db2 LUW, 'MON_GET_LOCKS'.
 pub fn snapshot(parts: &mut Parts, line: u32) -> Result<Paced, StepFault>
     requires stands { StandsFor parts.old }
     requires open { (world_of parts.old).pace.finished ≡ false }
@@ -207,6 +209,7 @@ pub fn snapshot(parts: &mut Parts, line: u32) -> Result<Paced, StepFault>
     ensures full { result ≡ Err StepFault.HistoryFull → is_full parts.old.head (world_of parts.old) (by_dispatcher (Acts.Snapshot line (listed parts.old.head (world_of parts.old).holds (world_of parts.old).waits))) ≡ true }
     ensures ok { OnOk result (parts.new.history.items ≡ parts.old.history.items ++ (if is_taken (shown parts.old.head (world_of parts.old)) then by_dispatcher (Acts.Snapshot line (listed parts.old.head (world_of parts.old).holds (world_of parts.old).waits)) ∷ [] else [])) }
     ensures err { OnErr result (content_of parts.new ≡ content_of parts.old) }
+    ensures due { OnErr result (is_taken (shown parts.old.head (world_of parts.old)) ≡ true) }
 {
     if parts.pace.stopped {
         return Ok(Paced::Stopping);

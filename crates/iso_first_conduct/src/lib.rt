@@ -1,9 +1,0 @@
-//! Conduct: which own entries the statements of a script make, in which order the dispatcher takes its
-//! lines, and so which histories are legal. The definitions stand in specs/; here are laws of them.
-#![tactic(auto)]
-
-mod laws;
-
-pub use laws::{
-    finished_is_whole, finished_takes_all_lines, one_entry_is_next, others_leave_the_point,
-};

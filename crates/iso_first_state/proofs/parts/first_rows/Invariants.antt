@@ -1,6 +1,0 @@
-use Rattle.std.proofs.Common.{◌≡◌, filter, map, take}
-use Rattle.iso_types.specs.Ids.{table_eq}
-use Rattle.iso_first_state.proofs.parts.first_rows.Given as goal
-
-abbrev pub invariant-loop-first : goal.invariant-loop-first
-invariant-loop-first l = l.rows ≡ map (λ f. f.row) (filter (λ f. table_eq f.table l.table) (take l.first-index l.head.rows))
