@@ -121,7 +121,7 @@ sets-targets head holds waits sets same =
 -- ---- the blockers of a wait are connections of the head
 
 -- none of the items has the connection
-abbrev Lack : {A : Type 0} → (A → Conn) → Conn → List A → Type 0
+abbrev pub Lack : {A : Type 0} → (A → Conn) → Conn → List A → Type 0
 Lack f d xs = AllByRecursion (λ y. conn_eq d (f y) ≡ false) xs
 
 lack-of : {A : Type 0} (f : A → Conn) (d : Conn) (xs : List A) → find (λ y. conn_eq (f y) d) xs ≡ None → Lack f d xs
@@ -133,7 +133,7 @@ lack-of f d (x ∷ xs) e = go (lack-of f d xs) (conn_eq (f x) d) refl e
     go ih true is g = absurd (cc)
     go ih false is g = (conn_eq-sym d (f x) ∙ is, ih g)
 
-lack-filter : {A : Type 0} (f : A → Conn) (d : Conn) (p : A → Bool) (xs : List A) → Lack f d xs → Lack f d (filter p xs)
+pub lack-filter : {A : Type 0} (f : A → Conn) (d : Conn) (p : A → Bool) (xs : List A) → Lack f d xs → Lack f d (filter p xs)
 lack-filter f d p [] h = tt
 lack-filter f d p (x ∷ xs) h = go (lack-filter f d p xs h.1) (p x) refl
   where
@@ -149,7 +149,7 @@ lack-while {A = A} f d p xs h = lack-take (prefix_len p xs) xs h
     lack-take (suc n) [] k = tt
     lack-take (suc n) (y ∷ ys) k = (k.0, lack-take n ys k.1)
 
-lack-any : {A : Type 0} (f : A → Conn) (d : Conn) (xs : List A) → Lack f d xs → is_among d (map f xs) ≡ false
+pub lack-any : {A : Type 0} (f : A → Conn) (d : Conn) (xs : List A) → Lack f d xs → is_among d (map f xs) ≡ false
 lack-any f d [] h = refl
 lack-any f d (x ∷ xs) h = or-neither (conn_eq d (f x)) (is_among d (map f xs)) h.0 (lack-any f d xs h.1)
 

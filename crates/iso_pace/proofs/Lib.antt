@@ -4,6 +4,7 @@ pub mod Walks
 pub mod Stills
 pub mod Rolls
 pub mod Victims
+pub mod Waits
 pub mod Closes
 pub mod Begins
 pub mod Dispatches

@@ -12,7 +12,8 @@ ghost use Rattle.iso_state.specs.Stands.{StandsFor, content_of, world_of};
 ghost use Rattle.iso_types.specs.declared.desk.Phase.TheVariants as Phases;
 
 use crate::lines::of_dispatcher;
-use crate::resting::{phase_of, quiet, same_phase};
+use crate::phases::{phase_of, same_phase};
+use crate::resting::quiet;
 use iso_history::Act;
 use iso_state::{Parts, desk_of, move_to, note};
 use iso_types::{Conn, Desk, Phase};
@@ -149,7 +150,8 @@ fn finish(parts: &mut Parts)
 
 /// Closes the next connection, or ends the history. `Finished`: all connections have ended, and the last entry is made;
 /// `NotQuiet`: not all is quiet, and nothing is recorded; `One`: the least idle connection is told to close. It takes no
-/// memory, and is never refused. It looks at each connection, and asks the lock list once for each. (This project's own.)
+/// memory, and is never refused. It looks at the phases, and where not all have ended it costs what `quiet` costs. (This
+/// project's own.)
 pub fn close_next(parts: &mut Parts) -> Closing
     requires stands { StandsFor parts.old }
     requires open { (world_of parts.old).pace.finished ≡ false }

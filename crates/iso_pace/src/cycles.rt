@@ -10,19 +10,25 @@ ghost use Rattle.iso_types.specs.Head.{conns};
 ghost use Rattle.iso_types.specs.declared.value.Conn.{Conn as Who};
 ghost use Rattle.iso_waitgraph.specs.Targets.{AreTargets};
 
+use crate::phases::{two_wait, waits};
 use iso_state::Parts;
 use iso_types::{Conn, Cycle, Edges};
 use iso_waitgraph::{cycle, on_cycle};
 
-/// The connections for which a connection waits.
+/// The connections for which a connection waits. The lock list is asked only where it waits.
 fn edges_of(parts: &Parts, conn: Conn) -> Edges
     requires stands { StandsFor parts.now }
+    requires conn { conn.0 < length parts.now.head.conns }
     ensures { (d : Who) → has_edge result d ≡ is_among d (edges_in parts.now.head (world_of parts.now) conn) }
 {
-    parts.locks.edges(conn)
+    if waits(parts, conn) {
+        parts.locks.edges(conn)
+    } else {
+        Edges::none()
+    }
 }
 
-/// The edges of each connection. It asks the lock list once for each connection.
+/// The edges of each connection. It asks the lock list once for each connection that waits.
 fn graph(parts: &Parts) -> [Edges; 32]
     requires stands { StandsFor parts.now }
     ensures { AreTargets (leads result) (edges_in parts.now.head (world_of parts.now)) (conns parts.now.head) }
@@ -34,25 +40,34 @@ fn graph(parts: &Parts) -> [Edges; 32]
     sets
 }
 
-/// The chosen cycle.
+/// The chosen cycle. Where fewer than two connections wait there is none, and the lock list is not asked.
 pub(crate) fn chosen(parts: &Parts) -> Option<Cycle>
     requires stands { StandsFor parts.now }
     ensures { result ≡ cycle_in parts.now.head (world_of parts.now) }
 {
-    cycle(&graph(parts))
+    if two_wait(parts) {
+        cycle(&graph(parts))
+    } else {
+        None
+    }
 }
 
-/// Whether the connection lies on a cycle.
+/// Whether the connection lies on a cycle. Where fewer than two connections wait it does not, and the lock list is not asked.
 pub(crate) fn lies_on_cycle(parts: &Parts, conn: Conn) -> bool
     requires stands { StandsFor parts.now }
     requires conn { conn.0 < length parts.now.head.conns }
     ensures { result ≡ is_on_cycle (edges_in parts.now.head (world_of parts.now)) (conns parts.now.head) conn }
 {
-    on_cycle(&graph(parts), conn)
+    if two_wait(parts) {
+        on_cycle(&graph(parts), conn)
+    } else {
+        false
+    }
 }
 
-/// Whether some connections wait for each other in a circle: a deadlock. It asks the lock list once for each connection, and
-/// takes no memory. Db2 LUW, 'Deadlocks'.
+/// Whether some connections wait for each other in a circle: a deadlock. It takes no memory. It looks at the phases first:
+/// where fewer than two connections wait there is none. Else it asks the lock list once for each connection that waits, and
+/// searches their edges. Db2 LUW, 'Deadlocks'.
 pub fn cyclic(parts: &Parts) -> bool
     requires stands { StandsFor parts.now }
     ensures { result ≡ is_some (cycle_in parts.now.head (world_of parts.now)) }

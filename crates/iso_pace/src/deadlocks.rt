@@ -77,7 +77,8 @@ fn end_deadlock(parts: &mut Parts, cycle: Cycle, conn: Conn)
 
 /// Ends a deadlock: the chosen cycle is recorded, and of its members the one whose unit is the youngest, the victim, stops
 /// waiting and has to roll back with -911 and reason 2. None where there is no cycle; nothing is recorded then. It takes no
-/// memory, and is never refused. It asks the lock list once for each connection. Db2 LUW, 'Deadlocks'; which cycle is chosen,
+/// memory, and is never refused. It looks at the phases first: where fewer than two connections wait it is done. Else it asks
+/// the lock list once for each connection that waits, and searches their edges. Db2 LUW, 'Deadlocks'; which cycle is chosen,
 /// and which of its members, is this project's own.
 pub fn detect(parts: &mut Parts) -> Option<Conn>
     requires stands { StandsFor parts.old }

@@ -7,6 +7,7 @@ mod cycles;
 mod deadlocks;
 mod dispatching;
 mod lines;
+mod phases;
 mod resting;
 
 pub use closing::{Closing, close_next};

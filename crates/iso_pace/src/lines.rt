@@ -13,7 +13,8 @@ ghost use Rattle.iso_state.specs.Steps.{Spends};
 ghost use Rattle.iso_pace.specs.Answers.{expired, is_taken, shown};
 ghost use Rattle.iso_types.specs.declared.desk.Phase.TheVariants as Phases;
 
-use crate::resting::{phase_of, quiet, same_phase};
+use crate::phases::waits;
+use crate::resting::quiet;
 use iso_history::{Act, Entry, Who};
 use iso_queue::LockLine;
 use iso_state::{Parts, desk_of, make_room, move_to, note};
@@ -154,15 +155,6 @@ pub fn expire(parts: &mut Parts, line: u32, conn: Conn) -> Result<Paced, StepFau
     }
     expire_none(parts, line, conn)?;
     Ok(Paced::NoEffect)
-}
-
-/// Whether the connection waits.
-fn waits(parts: &Parts, conn: Conn) -> bool
-    requires stands { StandsFor parts.now }
-    requires conn { conn.0 < length parts.now.head.conns }
-    ensures { result ≡ is_phase (phase (world_of parts.now) conn) Phases.Waiting }
-{
-    same_phase(phase_of(parts, conn), Phase::Waiting)
 }
 
 /// All holds and waits, as a snapshot lists them.

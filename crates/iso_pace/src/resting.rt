@@ -2,34 +2,18 @@
 
 ghost use Rattle.std.specs.Prelude.{◌≡◌, ◌<◌, length, take};
 ghost use Rattle.std.specs.List.{list_all};
-ghost use Rattle.iso_history.specs.Phases.{is_phase, phase};
 ghost use Rattle.iso_history.specs.Quiet.{is_able, is_busy, is_quiet, is_resting, waits_stuck};
 ghost use Rattle.iso_queue.specs.Queues.{is_stuck};
 ghost use Rattle.iso_state.specs.Stands.{StandsFor, world_of};
 ghost use Rattle.iso_types.specs.Head.{conns};
 
 use crate::cycles::{chosen, lies_on_cycle};
-use iso_state::{Parts, can_claim, desk_of};
+use crate::phases::{none_acts, phase_of};
+use iso_state::{Parts, can_claim};
 use iso_types::{Conn, Phase};
 
-/// The connection's phase.
-pub(crate) fn phase_of(parts: &Parts, conn: Conn) -> Phase
-    requires stands { StandsFor parts.now }
-    requires conn { conn.0 < length parts.now.head.conns }
-    ensures { result ≡ phase (world_of parts.now) conn }
-{
-    desk_of(parts, conn).phase
-}
-
-/// Whether the phases are the same.
-#[tactic(auto, unfolding(iso_history::specs::Phases::is_phase, iso_history::specs::Phases::phase_number))]
-pub(crate) fn same_phase(a: Phase, b: Phase) -> bool
-    ensures { result ≡ is_phase a b }
-{
-    a == b
-}
-
-/// Whether the agent of the connection can make a step: it runs, rolls back or closes, or its wait is over.
+/// Whether the agent of the connection can make a step: it runs, rolls back or closes, or its wait is over. The lock list is
+/// asked, once, only where it waits.
 pub fn able(parts: &Parts, conn: Conn) -> bool
     requires stands { StandsFor parts.now }
     requires conn { conn.0 < length parts.now.head.conns }
@@ -46,7 +30,7 @@ pub fn able(parts: &Parts, conn: Conn) -> bool
 }
 
 /// Whether the connection waits with an edge.
-fn is_blocked(parts: &Parts, conn: Conn) -> bool
+pub(crate) fn is_blocked(parts: &Parts, conn: Conn) -> bool
     requires stands { StandsFor parts.now }
     requires conn { conn.0 < length parts.now.head.conns }
     ensures { result ≡ waits_stuck (world_of parts.now) conn }
@@ -103,15 +87,16 @@ fn all_rest(parts: &Parts) -> bool
     true
 }
 
-/// Whether all is quiet: each connection is idle, ended or waits with an edge, and there is no cycle. It takes no memory. A
-/// cycle is sought only where each connection rests. (This project's own.)
+/// Whether all is quiet: each connection is idle, ended or waits with an edge, and there is no cycle. It takes no memory. It
+/// looks at the phases first, and is done where a connection runs, rolls back or closes. Then it asks the lock list once for
+/// each connection that waits, until one can go on; and only where all of them rest, and two wait, a cycle is sought, which
+/// asks once more for each that waits. (This project's own.)
 pub fn quiet(parts: &Parts) -> bool
     requires stands { StandsFor parts.now }
     ensures { result ≡ is_quiet parts.now.head (world_of parts.now) }
 {
-    if all_rest(parts) {
-        chosen(parts).is_none()
-    } else {
-        false
+    if !none_acts(parts) {
+        return false;
     }
+    all_rest(parts) && chosen(parts).is_none()
 }
