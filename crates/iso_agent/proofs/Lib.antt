@@ -1,1 +1,3 @@
 pub mod Rested
+pub mod Running
+pub mod Finished

@@ -2,5 +2,15 @@
 #![tactic(auto)]
 
 mod agent;
+mod due;
+mod ends;
+mod locks;
+mod looks;
+mod opening;
+mod quiet;
+mod stepped;
+mod telling;
+mod ways;
+mod writes;
 
 pub use agent::{Agent, Kept, Turned};
