@@ -77,7 +77,7 @@ unfolding world_from GroundFrom
 stays-from head w c [] g n runs = runs
 stays-from head w c (e ∷ es) g n runs = stays-from head (after head w e) c es g.1 n.1 (other-stays head w c e.who e.act g.0.2 n.0 runs)
 
-past-from : (head : Head) (w : World) (es fs : List Entry) → GroundFrom head w (es ++ fs)
+pub past-from : (head : Head) (w : World) (es fs : List Entry) → GroundFrom head w (es ++ fs)
     → GroundFrom head (world_from head w es) fs × (world_from head w (es ++ fs) ≡ world_from head (world_from head w es) fs)
 unfolding world_from GroundFrom
 past-from head w [] fs g = (g, refl)

@@ -35,7 +35,8 @@ shows row = Told.Shown row false ∷ []
 abbrev pub Tells : Kept → List Told → Type 0
 Tells Nothing ts = ts ≡ []
 Tells (Answer first second) ts = ts ≡ told_list first second
-Tells (Rebuild past) ts = (row : Option (List Value)) → IsRebuilt past row → ts ≡ shows row
+Tells (Rebuild past) ts =
+    (shown : Option (List Value)) × ((row : Option (List Value)) → IsRebuilt past row → row ≡ shown) × (ts ≡ shows shown)
 Tells Stop ts = ⊥
 
 -- nothing is left to be told

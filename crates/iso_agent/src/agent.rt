@@ -17,12 +17,13 @@ ghost use Rattle.iso_agent.specs.declared.agent.Kept.TheVariants.{Nothing};
 ghost use Rattle.iso_agent.specs.declared.agent.Turned.TheVariants as turns;
 
 use crate::due::step_due;
+use crate::ends::make_closing;
 use crate::opening::ready_task;
 use crate::stepped::Stepped;
 use crate::telling::tell;
 use crate::ways::{Way, find_way};
 use iso_conduct::{Task, Told};
-use iso_ends::{ended, stopped, undo_one};
+use iso_ends::stopped;
 use iso_history::{Cause, Who};
 use iso_rebuild::{Past, rebuild};
 use iso_script::Script;
@@ -84,9 +85,7 @@ impl Agent {
         ensures turned { HasTurned parts.old.history.items parts.new.history.items self.old.conn turns.Ran }
         ensures leaves { Leaves parts.old.head script.now.lines parts.new.history.items self.old.conn self.new.task self.new.kept }
     {
-        if !undo_one(parts, self.conn, 0) {
-            ended(parts, self.conn);
-        }
+        make_closing(parts, self.conn);
         self.task = None;
         self.kept = Kept::Nothing;
     }
@@ -160,7 +159,8 @@ impl Agent {
         if let Kept::Stop = self.kept {
             return self.stop(script, parts, Cause::Memory);
         }
-        match ready_task(alloc, script, parts, self.conn, self.task.take()) {
+        let task = self.task.take();
+        match ready_task(alloc, script, parts, self.conn, task) {
             Ok(task) => self.go_on(alloc, script, parts, task),
             Err(_) => self.stop(script, parts, Cause::Memory),
         }

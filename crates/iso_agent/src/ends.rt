@@ -1,7 +1,8 @@
 //! The steps of undos, savepoints, settings, and the ends of statements, as an agent makes them.
-ghost use Rattle.std.specs.Prelude.{◌≡◌, ◌<◌, [], length, false, true, IsTrue, is_some, unwrap_or};
-ghost use Rattle.iso_conduct.specs.Conduct.{has_left};
+ghost use Rattle.std.specs.Prelude.{◌≡◌, ◌<◌, ◌++◌, [], ◌∷◌, length, false, true, IsTrue, is_some, unwrap_or};
+ghost use Rattle.iso_conduct.specs.Conduct.{closing_act, has_left};
 ghost use Rattle.iso_history.specs.Legal.{RollbackStands, Runs, may_undo};
+ghost use Rattle.iso_history.specs.Makers.{by_agent};
 ghost use Rattle.iso_history.specs.Marks.{mark_of};
 ghost use Rattle.iso_history.specs.Outcomes.{last_record};
 ghost use Rattle.iso_history.specs.Phases.{phase};
@@ -12,9 +13,9 @@ ghost use Rattle.iso_agent.specs.Steps.{HasStepped};
 
 use crate::stepped::{Stepped, cause_of, keep};
 use iso_conduct::Told;
-use iso_ends::{back, commit, mark, reply, rollback_end, set, undo_one};
+use iso_ends::{back, commit, ended, mark, reply, rollback_end, set, undo_one};
 use iso_state::Parts;
-use iso_types::{Conn, Isolation, Rows, Text};
+use iso_types::{Conn, Isolation, Phase, Rows, Text};
 
 /// Makes the entry of an undo: the unit has a record at or above the floor.
 pub fn make_undo(parts: &mut Parts, conn: Conn, floor: u32) -> Stepped
@@ -127,4 +128,20 @@ pub fn make_reply(parts: &mut Parts, conn: Conn, code: i32, changed: u32, rows: 
         Ok(()) => Stepped::Over,
         Err(fault) => Stepped::Stops(cause_of(fault)),
     }
+}
+
+/// Makes the entry of a closing connection: the undo of its last record, or its end.
+pub fn make_closing(parts: &mut Parts, conn: Conn)
+    requires stands { StandsFor parts.old }
+    requires open { (world_of parts.old).pace.finished ≡ false }
+    requires conn { conn.0 < length parts.old.head.conns }
+    requires closing { phase (world_of parts.old) conn ≡ Phase.Closing }
+    ensures stands { StandsFor parts.new }
+    ensures head { parts.new.head ≡ parts.old.head }
+    ensures entry { parts.new.history.items ≡ parts.old.history.items ++ by_agent conn (closing_act (last_record (world_of parts.old) conn)) ∷ [] }
+{
+    if undo_one(parts, conn, 0) {
+        return;
+    }
+    ended(parts, conn);
 }

@@ -4,6 +4,7 @@
 mod agent;
 mod due;
 mod ends;
+mod laws;
 mod locks;
 mod looks;
 mod opening;
@@ -14,3 +15,4 @@ mod ways;
 mod writes;
 
 pub use agent::{Agent, Kept, Turned};
+pub use laws::agents_rest;
