@@ -42,7 +42,7 @@ each head p c known all = go (p c) refl
         absurd (cc)
 
 -- where Finish stands all have ended
-EndsAll : Head → World → Type 0
+abbrev EndsAll : Head → World → Type 0
 EndsAll head w = w.pace.finished ≡ true → all_ended head w ≡ true
 
 was-not : (b : Bool) → b ≡ false → b ≡ true → (P : Type 0) → P
@@ -50,7 +50,6 @@ was-not b e f P = absurd (cc)
 
 finish-ends : (head : Head) (w : World) (who : Who) (a : Act) → w.pace.finished ≡ false → By head w who a
     → EndsAll head (after head w (record { who = who; act = a }))
-unfolding EndsAll
 finish-ends head w Dispatcher Act.Finish going by = λ e. by
 finish-ends head w Dispatcher a going by = λ e. last a by e
   where
@@ -60,7 +59,6 @@ finish-ends head w Dispatcher a going by = λ e. last a by e
 finish-ends head w (Agent c) a going by = λ e. was-not w.pace.finished going e _
 
 ends-along : (head : Head) (es : List Entry) → Ground head es → EndsAll head (world head es)
-unfolding EndsAll
 ends-along head es g = along head (EndsAll head) (λ w e al p. finish-ends head w e.who e.act (not-true w.pace.finished al.0) al.2) es (λ e. absurd (cc)) g
 
 -- while a connection has not ended, no Finish stands
@@ -69,7 +67,6 @@ pub going-on : (head : Head) (es : List Entry) (c : Conn) → Ground head es →
 going-on head es c g known alive = go (world head es).pace.finished refl
   where
     go : (b : Bool) → (world head es).pace.finished ≡ b → (world head es).pace.finished ≡ false
-    unfolding EndsAll
     go false e = e
     go true e =
         let f : (world head es).ended c ≡ true = each head (world head es).ended c known (ends-along head es g e) in

@@ -154,7 +154,7 @@ module _ (head : Head) (lines : List Line) (es new : List Entry) (c : Conn) (a :
       → (kept : Kept) → Tells kept (heard (world head es) (world head new) c a) → HasPin kept
       → (wants p (heard (world head es) (world head new) c a) ≡ true → phase (world head new) c ≡ Running)
       → CanTell p (heard (world head es) (world head new) c a) → Leaves head lines new c (Some p) kept
-  goes-leaves k m open e p r kept tells pin runs can = record {
+  goes-leaves k m unclosed e p r kept tells pin runs can = record {
     conduct = conduct-now k m;
     fits = record {
       reaches = subst (λ q. Reaches (Some p) kept q) (sym reached) (reaches-by p kept (heard (world head es) (world head new) c a) tells);
@@ -165,5 +165,5 @@ module _ (head : Head) (lines : List Line) (es new : List Entry) (c : Conn) (a :
     where
       reached : point head lines new c ≡ Some (told_all p (heard (world head es) (world head new) c a))
       reached =
-          point-now ∙ goes-some head lines (world head es) _ c (point head lines es c) a (phase (world head es) c) open e p r
+          point-now ∙ goes-some head lines (world head es) _ c (point head lines es c) a (phase (world head es) c) unclosed e p r
           ∙ ap (λ v. Some (told_all p (heard (world head es) v c a))) (sym world-now)

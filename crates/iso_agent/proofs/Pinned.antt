@@ -52,7 +52,10 @@ or-later false b e = e
 both : (b : Bool) → b ≡ true → b ≡ false → (P : Type 0) → P
 both b t f P = absurd (cc)
 
-neither : (b : Bool) → (if b then [] else []) ≡ ([] : List Request)
+abbrev none_asked : List Request
+none_asked = []
+
+neither : (b : Bool) → (if b then none_asked else []) ≡ none_asked
 neither true = refl
 neither false = refl
 

@@ -32,13 +32,12 @@ apart f c d no yes = go (conn_eq c d) refl
     go true e = let q : f d ≡ false = subst (λ x. f x ≡ false) (conn_eq-is c d e) no in absurd (cc)
 
 -- the phase is idle
-is_idle : Phase → Bool
+abbrev is_idle : Phase → Bool
 is_idle Idle = true
 is_idle p = false
 
 -- one that runs is none that is idle
 from-idle : (w : World) (c d : Conn) → phase w c ≡ Running → phase w d ≡ Idle → conn_eq c d ≡ false
-unfolding is_idle
 from-idle w c d runs idle = apart (λ x. is_idle (phase w x)) c d (ap is_idle runs) (ap is_idle idle)
 
 -- nor one that waits
@@ -46,12 +45,11 @@ from-waiting : (w : World) (c d : Conn) → phase w c ≡ Running → is_waiting
 from-waiting w c d runs waits = apart (λ x. is_waiting w.waits x) c d (running w c runs).waiting_is waits
 
 -- nor one of this phase
-is_waiting_phase : Phase → Bool
+abbrev is_waiting_phase : Phase → Bool
 is_waiting_phase Phase.Waiting = true
 is_waiting_phase p = false
 
 from-waits : (w : World) (c d : Conn) → phase w c ≡ Running → phase w d ≡ Phase.Waiting → conn_eq c d ≡ false
-unfolding is_waiting_phase
 from-waits w c d runs waits = apart (λ x. is_waiting_phase (phase w x)) c d (ap is_waiting_phase runs) (ap is_waiting_phase waits)
 
 dispatcher-stays : (head : Head) (w : World) (c : Conn) (a : Act) → ByDispatcher head w a → phase w c ≡ Running

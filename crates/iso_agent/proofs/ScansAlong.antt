@@ -49,9 +49,11 @@ later head w e = record { slots = λ t. slots-grow w (unit_of_maker w e.who) (ch
 pub look-left : (w : World) (s : Statement) (kept : Haul) (ps : List Part) (t : TableId) (r : Rid) (want : _) → due_by kept ps ≡ Move.Look t r want
     → list_all (is_within w s) ps ≡ true → (qs : List Part) × (ps ≡ TableScan t want r.0 ∷ qs)
 look-left w s kept (TableScan u k n ∷ ps) t r want e h =
-    let a : u ≡ t = cc in let b : k ≡ want = cc in let d : record { 0 = n } ≡ r = cc in
-    (ps, subst (λ (x : TableId). TableScan u k n ∷ ps ≡ TableScan x want r.0 ∷ ps) a
-    (subst (λ x. TableScan u k n ∷ ps ≡ TableScan u x r.0 ∷ ps) b (subst (λ (x : Rid). TableScan u k n ∷ ps ≡ TableScan u k x.0 ∷ ps) d refl)))
+    let a : u ≡ t = cc in let b : k ≡ want = cc in let d : record { 0 = n } ≡ r = cc in (
+      ps,
+      subst (λ (x : TableId). TableScan u k n ∷ ps ≡ TableScan x want r.0 ∷ ps) a
+          (subst (λ x. TableScan u k n ∷ ps ≡ TableScan u x r.0 ∷ ps) b (subst (λ (x : Rid). TableScan u k n ∷ ps ≡ TableScan u k x.0 ∷ ps) d refl)),
+    )
 look-left w s kept (EntryLook walk key n ∷ ps) t r want e h = absurd (cc)
 look-left w s kept _ t r want e h = absurd (cc)
 
@@ -80,7 +82,7 @@ ends-not (Stopped cause) e = absurd (cc)
 ends-not _ e = refl
 
 module _ (head : Head) (lines : List Line) (c : Conn) (plain : length head.indexes ≡ 0) (sound : list_all (is_sound_line head) lines ≡ true) where
-  PlainAt : World → Option Point → Type 0
+  abbrev PlainAt : World → Option Point → Type 0
   PlainAt w None = Unit {0}
   PlainAt w (Some p) = IsPlainAt head w p
 
@@ -95,12 +97,10 @@ module _ (head : Head) (lines : List Line) (c : Conn) (plain : length head.index
       go (Some t) e = subst (λ x. IsPlainAt head w (told_by p x)) (sym e) (told-plain head w p t (quiet-shows w c (due p) t e) g)
 
   opened-plain : (w : World) (o : Option Point) → PlainAt w o → PlainAt w (opened head lines w c o)
-  unfolding PlainAt
   opened-plain w (Some p) g = g
   opened-plain w None g = go (statement_at lines c (w.line c)) refl
     where
       go : (s : Option Statement) → statement_at lines c (w.line c) ≡ s → PlainAt w (option_map (start_point head c (w.setting c) (w.floor c)) s)
-      unfolding PlainAt
       go None e = tt
       go (Some s) e = start-plain head w c (w.setting c) (w.floor c) s plain (statement-sound head lines c (w.line c) s sound e)
 
@@ -108,7 +108,6 @@ module _ (head : Head) (lines : List Line) (c : Conn) (plain : length head.index
   ready-plain w o g = go (opened head lines w c o) (opened-plain w o g)
     where
       go : (q : Option Point) → PlainAt w q → PlainAt w (option_map (λ p. quieted w c (quieted w c p)) q)
-      unfolding PlainAt
       go None g = tt
       go (Some p) g = quieted-plain w (quieted w c p) (quieted-plain w p g)
 
@@ -146,14 +145,12 @@ module _ (head : Head) (lines : List Line) (c : Conn) (plain : length head.index
   moved-plain w v o a l g is = go (ends a) refl (ready head lines w c o) refl g
     where
       go : (b : Bool) → ends a ≡ b → (q : Option Point) → ready head lines w c o ≡ q → PlainAt w q → PlainAt v (moved_by b w v c q a)
-      unfolding PlainAt
       go true e q r g = tt
       go false e None r g = tt
       go false e (Some p) r g = subst (λ x. IsPlainAt head v (told_all p (heard w v c x))) (is p r e) (made-plain w v p l g)
 
   moved_in-plain : (f : Phase) (w v : World) (o : Option Point) (a : Act) → IsLater w v → PlainAt w o → MayIn f head lines w c o a
       → PlainAt v (moved_in f head lines w v c o a)
-  unfolding PlainAt
   moved_in-plain Closing w v o a l g m = tt
   moved_in-plain Running w v o a l g m =
       moved-plain w v o a l (ready-plain w o g) (λ p r e. may-made head lines w c Running o a (ends-not a e) (λ k. cc) m p r)
@@ -165,7 +162,6 @@ module _ (head : Head) (lines : List Line) (c : Conn) (plain : length head.index
   moved_in-plain Phase.Ended w v o a l g m = absurd m
 
   at-later : (w v : World) (o : Option Point) → IsLater w v → PlainAt w o → PlainAt v o
-  unfolding PlainAt
   at-later w v None l g = tt
   at-later w v (Some p) l g = plain-later head w v p l g
 
@@ -183,11 +179,10 @@ module _ (head : Head) (lines : List Line) (c : Conn) (plain : length head.index
   along-plain w o (e ∷ es) d g = along-plain (after head w e) (point_after head lines w c o e) es d.1 (after-plain w o e d.0 g)
 
   reached-plain : (es : List Entry) → Conduct head lines es c → PlainAt (world head es) (point head lines es c)
-  unfolding Conduct point world PlainAt
+  unfolding Conduct point world
   reached-plain es d = along-plain (start head) None es d tt
 
   -- the point from which the next entry is made
   pub plain-at : (es : List Entry) (p : Point) → Conduct head lines es c → ready head lines (world head es) c (point head lines es c) ≡ Some p
       → IsPlainAt head (world head es) p
-  unfolding PlainAt
   plain-at es p d e = subst (PlainAt (world head es)) e (ready-plain (world head es) (point head lines es c) (reached-plain es d))
