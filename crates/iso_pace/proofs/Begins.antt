@@ -1,16 +1,16 @@
 -- What every history tells of a connection that has no unit, and of the next unit's number. These facts speak of histories
 -- alone: they belong beside the histories' other facts.
-use Rattle.std.proofs.Common.{◌≡◌, ◌≤◌, ◌<◌, ◌+◌, ℕ, Bool, true, false, List, [], ◌∷◌, length, refl, ap, sym, ◌∙◌, arith, Some, None, Option, is_some}
-use Rattle.std.specs.Prelude.{◌==◌, if◌then◌else◌, unwrap_or}
+use Rattle.std.proofs.Common.{◌≡◌, ◌≤◌, ◌<◌, ◌+◌, ℕ, Bool, true, false, List, [], ◌∷◌, length, refl, ap, sym, ◌∙◌, arith, Some, None, is_some}
+use Rattle.std.specs.Prelude.{◌==◌, if◌then◌else◌}
 use Rattle.std.proofs.lemmas.Bool.Decides.{nat_tests}
 use Rattle.iso_history.proofs.Snoc.{along}
 use Rattle.iso_history.proofs.limits.Courses.{on_course-after, on_course-start, running-unit}
 use Rattle.iso_history.proofs.limits.Made.{made-is}
 use Rattle.iso_history.proofs.limits.Others.{at-other, at-same}
 use Rattle.iso_history.proofs.limits.Waiting.{conn_eq-is}
-use Rattle.iso_history.specs.After.{after, start, world}
+use Rattle.iso_history.specs.After.{world}
 use Rattle.iso_history.specs.Courses.{OnCourse, RecordsBegun}
-use Rattle.iso_history.specs.Legal.{Allowed, By, ByAgent, Ground}
+use Rattle.iso_history.specs.Legal.{By, ByAgent, Ground}
 use Rattle.iso_history.specs.Linked.{first_from, first_made}
 use Rattle.iso_history.specs.Marks.{marks_by, marks_by_agent}
 use Rattle.iso_history.specs.Units.{Turn, begun_by, turn_of, turn_of_agent, turn_of_dispatcher, unit_by}

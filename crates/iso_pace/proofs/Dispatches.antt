@@ -10,12 +10,11 @@ use Rattle.iso_history.specs.Courses.{NoneLeft}
 use Rattle.iso_history.specs.Legal.{ByDispatcher}
 use Rattle.iso_history.specs.Makers.{by_dispatcher}
 use Rattle.iso_history.specs.Paces.{pace_by}
-use Rattle.iso_history.specs.Phases.{is_phase, phase}
+use Rattle.iso_history.specs.Phases.{phase}
 use Rattle.iso_history.specs.Records.{count, left}
 use Rattle.iso_history.specs.Reserves.{reserves_more}
 use Rattle.iso_history.specs.Stops.{is_full}
 use Rattle.iso_history.specs.World.{World}
-use Rattle.iso_history.specs.declared.entry.Act.{Act}
 use Rattle.iso_history.specs.declared.entry.Act.TheVariants.{Dispatch}
 use Rattle.iso_history.specs.declared.entry.Who.TheVariants.{Dispatcher}
 use Rattle.iso_types.specs.declared.desk.Desk.{Desk}

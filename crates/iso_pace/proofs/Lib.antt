@@ -3,6 +3,8 @@ pub mod Graphs
 pub mod Walks
 pub mod Stills
 pub mod Rolls
+pub mod Victims
 pub mod Closes
 pub mod Begins
 pub mod Dispatches
+pub mod QuietEnds

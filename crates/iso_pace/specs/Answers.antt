@@ -4,12 +4,12 @@ use Rattle.std.specs.Prelude.{Bool, ℕ, true, false, ◌||◌, List, [], ◌∷
 use Rattle.iso_history.specs.Makers.{by_dispatcher}
 use Rattle.iso_history.specs.Outcomes.{statement_step}
 use Rattle.iso_history.specs.declared.entry.Act.{Act}
-use Rattle.iso_history.specs.declared.entry.Act.TheVariants.{Close, Finish}
+use Rattle.iso_history.specs.declared.entry.Act.TheVariants.{Close, Finish, Victim}
 use Rattle.iso_history.specs.declared.entry.Entry.{Entry}
 use Rattle.iso_pace.specs.declared.closing.Closing.{Closing}
 use Rattle.iso_pace.specs.declared.closing.Closing.TheVariants.{Finished, One}
-use Rattle.iso_history.specs.Phases.{is_phase, phase}
-use Rattle.iso_history.specs.Quiet.{all_ended, is_quiet, least_idle}
+use Rattle.iso_history.specs.Phases.{is_phase, phase, victim}
+use Rattle.iso_history.specs.Quiet.{all_ended, cycle_in, is_quiet, least_idle}
 use Rattle.iso_history.specs.World.{World}
 use Rattle.iso_pace.specs.declared.lines.Paced.{Paced}
 use Rattle.iso_pace.specs.declared.lines.Paced.TheVariants.{Busy, Done, NoEffect, NotQuiet, Stopping}
@@ -48,6 +48,15 @@ abbrev pub closing : Closing → List Entry
 closing (One c) = by_dispatcher (Close c) ∷ []
 closing Closing.NotQuiet = []
 closing Finished = by_dispatcher Finish ∷ []
+
+-- the end of a deadlock: the victim of the chosen cycle, and none where there is no cycle
+abbrev pub detected : Head → World → Option Conn
+detected head w = option_map_or (victim w) (cycle_in head w) None
+
+-- what is recorded then
+abbrev pub detecting : Option (List Conn) → List Entry
+detecting None = []
+detecting (Some cycle) = by_dispatcher (Victim cycle) ∷ []
 
 -- the step that takes a statement's line: none after a Stopped; one without `&` is taken only in quiet
 abbrev pub line_step : Head → World → ℕ → Conn → Bool → Option Act

@@ -156,6 +156,7 @@ pub fn close_next(parts: &mut Parts) -> Closing
     ensures stands { StandsFor parts.new }
     ensures head { parts.new.head ≡ parts.old.head }
     ensures answer { result ≡ closed parts.old.head (world_of parts.old) }
+    ensures quiet { result ≡ Closing.NotQuiet → is_quiet parts.old.head (world_of parts.old) ≡ false }
     ensures ok { parts.new.history.items ≡ parts.old.history.items ++ closing (closed parts.old.head (world_of parts.old)) }
 {
     if all_over(parts) {

@@ -4,12 +4,14 @@
 
 mod closing;
 mod cycles;
+mod deadlocks;
 mod dispatching;
 mod lines;
 mod resting;
 
 pub use closing::{Closing, close_next};
 pub use cycles::cyclic;
+pub use deadlocks::detect;
 pub use dispatching::dispatch;
 pub use lines::{Paced, expire, snapshot};
 pub use resting::{able, quiet};

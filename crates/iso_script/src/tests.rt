@@ -133,7 +133,11 @@ const REFUSED: [(&[u8], u32, LineCause); 25] = [
         3,
         LineCause::Duplicate(9),
     ),
-    (b"DB2ISO 1\nCONNECT A\nCONNECT B RR\n", 3, LineCause::Unbuilt),
+    (
+        b"DB2ISO 1\nCONNECT A\nCONNECT B RR\n",
+        3,
+        LineCause::Unbuilt,
+    ),
     (
         b"DB2ISO 1\nTABLE T (N INTEGER NOT NULL)\nROW T (5)\nROW T (5)\n UNIQUE INDEX I ON T (N)\n",
         5,

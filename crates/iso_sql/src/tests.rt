@@ -80,24 +80,15 @@ const FORMS: [(&[u8], Option<SqlFault>); 23] = [
     ),
     (b"ROLLBACK", None),
     (b"ROLLBACK WORK TO SAVEPOINT A", None),
-    (
-        b"SAVEPOINT A ON ROLLBACK RETAIN CURSORS",
-        None,
-    ),
+    (b"SAVEPOINT A ON ROLLBACK RETAIN CURSORS", None),
     (b"LOCK TABLE T IN SHARE MODE", None),
     (b"LOCK TABLE T IN EXCLUSIVE MODE", None),
     (b"SET ISOLATION RESET", None),
     (b"SET CURRENT ISOLATION = RS", None),
     (b"SET ISOLATION RR", Some(SqlFault::Unbuilt)),
     (b"SET CURRENT LOCK TIMEOUT WAIT", None),
-    (
-        b"SET CURRENT LOCK TIMEOUT=NOT WAIT",
-        None,
-    ),
-    (
-        b"SAVEPOINT ABCDEFGHIJKLMNOPQRSTUVWXYZ123456",
-        None,
-    ),
+    (b"SET CURRENT LOCK TIMEOUT=NOT WAIT", None),
+    (b"SAVEPOINT ABCDEFGHIJKLMNOPQRSTUVWXYZ123456", None),
 ];
 
 const BROKEN: [(&[u8], Option<SqlFault>); 15] = [

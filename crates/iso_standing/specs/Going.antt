@@ -1,5 +1,5 @@
 -- When the agent of a connection can make the step that is due of its statement.
-use Rattle.std.specs.Prelude.{◌≡◌, ⊥, true}
+use Rattle.std.specs.Prelude.{◌≡◌, true}
 use Rattle.iso_history.specs.Phases.{phase}
 use Rattle.iso_history.specs.Quiet.{is_able}
 use Rattle.iso_history.specs.World.{World}
