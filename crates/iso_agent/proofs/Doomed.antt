@@ -1,5 +1,5 @@
 -- A connection that has to roll back has an open statement with an own entry.
-use Rattle.std.proofs.Common.{◌≡◌, ⊥, ℕ, Bool, true, false, ◌||◌, ◌&&◌, not, List, [], ◌∷◌, ◌++◌, refl, sym, ap, ◌∙◌, subst, Option, Some, None, if◌then◌else◌}
+use Rattle.std.proofs.Common.{◌≡◌, ℕ, Bool, true, false, ◌||◌, ◌&&◌, not, List, [], ◌∷◌, ◌++◌, refl, sym, ap, ◌∙◌, subst, Option, Some, None, if◌then◌else◌}
 use Rattle.std.specs.Option.{option_map}
 use Rattle.std.specs.Prelude.{is_none, is_some}
 use Rattle.iso_conduct.proofs.PairedAlong.{IsTied, next_at, tied-along}

@@ -1,5 +1,5 @@
 -- What a turn that made an entry leaves of its agent.
-use Rattle.std.proofs.Common.{◌≡◌, ◌⊎◌, inl, inr, ⊥, ℕ, Bool, true, false, ◌||◌, ◌&&◌, List, [], ◌∷◌, ◌++◌, refl, sym, ap, ◌∙◌, subst, Option, Some, None, if◌then◌else◌}
+use Rattle.std.proofs.Common.{◌≡◌, ◌⊎◌, inl, inr, ℕ, Bool, true, false, ◌||◌, ◌&&◌, List, [], ◌∷◌, ◌++◌, refl, sym, ap, ◌∙◌, subst, Option, Some, None, if◌then◌else◌}
 use Rattle.std.specs.Prelude.{IsTrue, not}
 use Rattle.iso_agent.specs.Fits.{CanSettle, CanTell, Fits, Reaches, Tells, may_want, shows, told_list, told_to, wants}
 use Rattle.iso_agent.specs.Steps.{HasPin}
@@ -63,16 +63,16 @@ module _ (head : Head) (lines : List Line) (w : World) (c : Conn) (o : Option Po
   pub stop-may : may_stop head w c Memory ≡ true → MayIn (phase w c) head lines w c o (Stopped Memory)
   stop-may s = go (phase w c) refl
     where
-      no : (f : Phase) → phase w c ≡ f → stops_by f (is_grantable w.holds w.waits c) ≡ true
-      no f e = subst (λ z. stops_by z (is_grantable w.holds w.waits c) ≡ true) e s
+      by_phase : (f : Phase) → phase w c ≡ f → stops_by f (is_grantable w.holds w.waits c) ≡ true
+      by_phase f e = subst (λ z. stops_by z (is_grantable w.holds w.waits c) ≡ true) e s
 
       go : (f : Phase) → phase w c ≡ f → MayIn f head lines w c o (Stopped Memory)
       go Running e = any-stop (ready head lines w c o)
       go Phase.Waiting e = any-stop (ready head lines w c o)
-      go Rolling e = let k = no Rolling e in absurd (cc)
-      go Closing e = let k = no Closing e in absurd (cc)
-      go Idle e = let k = no Idle e in absurd (cc)
-      go Phase.Ended e = let k = no Phase.Ended e in absurd (cc)
+      go Rolling e = let k = by_phase Rolling e in absurd (cc)
+      go Closing e = let k = by_phase Closing e in absurd (cc)
+      go Idle e = let k = by_phase Idle e in absurd (cc)
+      go Phase.Ended e = let k = by_phase Phase.Ended e in absurd (cc)
 
 -- ---- the point after an own entry
 

@@ -1,5 +1,5 @@
 -- What is kept of a look's answer is what its statement hears of the entry.
-use Rattle.std.proofs.Common.{◌≡◌, ◌<◌, ⊥, Bool, true, false, List, [], ◌∷◌, ◌++◌, refl, sym, ap, ◌∙◌, subst, Option, Some, None, if◌then◌else◌}
+use Rattle.std.proofs.Common.{◌≡◌, ◌<◌, Bool, true, false, List, [], ◌∷◌, ◌++◌, refl, sym, ap, ◌∙◌, subst, Option, Some, None, if◌then◌else◌}
 use Rattle.std.proofs.lemmas.Bool.{ltb-true}
 use Rattle.std.specs.Prelude.{nat_lt}
 use Rattle.iso_agent.proofs.Pinned.{pinned-unfresh}

@@ -25,11 +25,11 @@ use Rattle.iso_types.specs.declared.value.Conn.{Conn}
 
 -- connections of which one passes a test and the other does not are two
 apart : (f : Conn → Bool) (c d : Conn) → f c ≡ false → f d ≡ true → conn_eq c d ≡ false
-apart f c d no yes = go (conn_eq c d) refl
+apart f c d off on = go (conn_eq c d) refl
   where
     go : (b : Bool) → conn_eq c d ≡ b → b ≡ false
     go false e = refl
-    go true e = let q : f d ≡ false = subst (λ x. f x ≡ false) (conn_eq-is c d e) no in absurd (cc)
+    go true e = let q : f d ≡ false = subst (λ x. f x ≡ false) (conn_eq-is c d e) off in absurd (cc)
 
 -- the phase is idle
 abbrev is_idle : Phase → Bool

@@ -92,23 +92,28 @@ abbrev pub is_shown : Told → Bool
 is_shown (Told.Shown shown fresh) = true
 is_shown t = false
 
+-- the point with other parts left
+moved : (head : Head) (w : World) (p : Point) (ps : List Part) → list_all (is_within w p.statement) ps ≡ true → IsPlainAt head w p
+    → IsPlainAt head w (record p { left = ps })
+moved head w p ps e g = record { sound = g.sound; columns = g.columns; within = e; few = g.few }
+
 -- an answer of another step leaves the scan where it was
 pub told-plain : (head : Head) (w : World) (p : Point) (t : Told) → is_shown t ≡ false → IsPlainAt head w p → IsPlainAt head w (told_point p t)
-told-plain head w p Told.Done no g = record g { within = all-behind (is_within w p.statement) p.left g.within }
-told-plain head w p Told.Granted no g = record g { within = all-behind (is_within w p.statement) p.left g.within }
-told-plain head w p Told.Queued no g = record g { within = queued-within w p.statement p.left g.within }
-told-plain head w p Told.Blocked no g = record g { within = g.within }
-told-plain head w p Told.TimedOut no g = record g { within = refl }
-told-plain head w p (Told.Ended reason) no g = record g { within = refl }
-told-plain head w p (Told.Escalates t) no g = record g { within = g.within }
-told-plain head w p (Told.Refused code) no g = record g { within = refl }
-told-plain head w p (Told.Shown shown fresh) no g = absurd (cc)
-told-plain head w p Told.EndOfTable no g = record g { within = out-within w p.statement p (behind p.left) (all-behind (is_within w p.statement) p.left g.within) }
-told-plain head w p Told.Past no g = record g { within = out-within w p.statement p (behind p.left) (all-behind (is_within w p.statement) p.left g.within) }
-told-plain head w p (Told.At key r) no g = record g { within = standing-within w p.statement key r p.left g.within }
-told-plain head w p (Told.Undone true) no g = g
-told-plain head w p (Told.Undone false) no g = record g { within = ending-within w p.statement p.left g.within }
-told-plain head w p (Told.Floor mark) no g = record g { within = backed-within w p.statement mark p.left g.within }
+told-plain head w p Told.Done off g = moved head w p _ (all-behind (is_within w p.statement) p.left g.within) g
+told-plain head w p Told.Granted off g = moved head w p _ (all-behind (is_within w p.statement) p.left g.within) g
+told-plain head w p Told.Queued off g = moved head w p _ (queued-within w p.statement p.left g.within) g
+told-plain head w p Told.Blocked off g = moved head w p _ g.within g
+told-plain head w p Told.TimedOut off g = moved head w p _ refl g
+told-plain head w p (Told.Ended reason) off g = moved head w p _ refl g
+told-plain head w p (Told.Escalates t) off g = moved head w p _ g.within g
+told-plain head w p (Told.Refused code) off g = moved head w p _ refl g
+told-plain head w p (Told.Shown shown fresh) off g = absurd (cc)
+told-plain head w p Told.EndOfTable off g = moved head w p _ (out-within w p.statement p (behind p.left) (all-behind (is_within w p.statement) p.left g.within)) g
+told-plain head w p Told.Past off g = moved head w p _ (out-within w p.statement p (behind p.left) (all-behind (is_within w p.statement) p.left g.within)) g
+told-plain head w p (Told.At key r) off g = moved head w p _ (standing-within w p.statement key r p.left g.within) g
+told-plain head w p (Told.Undone true) off g = g
+told-plain head w p (Told.Undone false) off g = moved head w p _ (ending-within w p.statement p.left g.within) g
+told-plain head w p (Told.Floor mark) off g = moved head w p _ (backed-within w p.statement mark p.left g.within) g
 
 -- ---- looks
 

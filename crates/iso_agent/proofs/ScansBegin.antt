@@ -11,7 +11,6 @@ use Rattle.iso_conduct.specs.Parts.{Part, change_list, change_want, level_in, li
 use Rattle.iso_conduct.specs.Parts.Part.{Answer, Asks, NewRow, Refuses, TableScan}
 use Rattle.iso_conduct.specs.Points.{first_haul, start_point}
 use Rattle.iso_history.proofs.whole.PressedWrites.{indexes-declared}
-use Rattle.iso_history.specs.Indexes.{indexes_of}
 use Rattle.iso_history.specs.Versions.{slots}
 use Rattle.iso_history.specs.World.{Setting, World}
 use Rattle.iso_history.specs.Writes.{minus}
@@ -27,6 +26,7 @@ use Rattle.iso_sql.specs.declared.statement.Condition.{Condition}
 use Rattle.iso_sql.specs.declared.statement.Items2.TheVariants.{All, Columns, Count}
 use Rattle.iso_sql.specs.declared.statement.Statement.{Statement}
 use Rattle.iso_sql.specs.declared.statement.Statement.TheVariants as st
+use Rattle.iso_types.specs.Head.{indexes_of}
 use Rattle.iso_types.specs.Ids.{conn_eq, table_eq}
 use Rattle.iso_types.specs.declared.head.Head.{Head}
 use Rattle.iso_types.specs.declared.head.Isolation.{Isolation}
@@ -37,13 +37,13 @@ use Rattle.iso_types.specs.declared.value.Value.{Value}
 
 -- ---- the statement of a sound line
 
+some-is : {A : Type 0} (a b : A) → Some a ≡ Some b → a ≡ b
+some-is a b h = cc
+
 found-all : {A : Type 0} (p q : A → Bool) (xs : List A) (x : A) → list_all q xs ≡ true → find p xs ≡ Some x → q x ≡ true
 found-all p q [] x all e = absurd (cc)
 found-all p q (y ∷ ys) x all e = go (p y) (found-all p q ys x (and_parts (q y) (list_all q ys) all).1) e
   where
-    some-is : (a b : _) → Some a ≡ Some b → a ≡ b
-    some-is a b h = cc
-
     go : (b : Bool) → (find p ys ≡ Some x → q x ≡ true) → (if b then Some y else find p ys) ≡ Some x → q x ≡ true
     go true ih h = subst (λ z. q z ≡ true) (some-is y x h) (and_parts (q y) (list_all q ys) all).0
     go false ih h = ih h
@@ -77,16 +77,17 @@ none-of : {A : Type 0} (xs : List A) → length xs ≡ 0 → xs ≡ []
 none-of [] e = refl
 none-of (x ∷ xs) e = absurd (omega (arith, e))
 
--- without an index the path is the table
-pub plain-plan : (head : Head) (t : TableId) (cond : Condition) → length head.indexes ≡ 0 → plan_of head t cond ≡ Path.Table
-plain-plan head t cond plain = ap (λ (is : List IndexId). first_path head cond is) (none-of (indexes_of head t) few)
+-- no index is of the table
+pub no-indexes : (head : Head) (t : TableId) → length head.indexes ≡ 0 → indexes_of head t ≡ []
+no-indexes head t plain = none-of (indexes_of head t) (indexes-declared head t ∙ filtered (λ d. table_eq d.table t) head.indexes plain)
   where
     filtered : {A : Type 0} (p : A → Bool) (xs : List A) → length xs ≡ 0 → length (filter p xs) ≡ 0
     filtered p [] e = refl
     filtered p (x ∷ xs) e = absurd (omega (arith, e))
 
-    few : length (indexes_of head t) ≡ 0
-    few = indexes-declared head t ∙ filtered (λ d. table_eq d.table t) head.indexes plain
+-- so the path is the table
+plain-plan : (head : Head) (t : TableId) (cond : Condition) → length head.indexes ≡ 0 → plan_of head t cond ≡ Path.Table
+plain-plan head t cond plain = ap (λ (is : List IndexId). first_path head cond is) (no-indexes head t plain)
 
 module _ (head : Head) (w : World) where
   abbrev Within : Statement → List Part → Type 0

@@ -2,7 +2,7 @@
 use Rattle.std.proofs.Common.{◌≡◌, ◌≤◌, ◌<◌, ◌+◌, ℕ, Bool, true, false, ◌&&◌, List, [], ◌∷◌, refl, sym, ap, ◌∙◌, subst, Option, Some, None, arith, if◌then◌else◌}
 use Rattle.std.proofs.lemmas.Bool.{and_parts, eqb-true, leb-true}
 use Rattle.std.specs.List.{list_all}
-use Rattle.std.specs.Prelude.{nat_le}
+use Rattle.std.specs.Prelude.{◌==◌, nat_le}
 use Rattle.iso_agent.specs.Scans.{IsPlainAt, is_scanned, is_within}
 use Rattle.iso_conduct.proofs.Fitting.{reads-fit}
 use Rattle.iso_conduct.specs.Courses.{MayTell, fits_table, haul_size, key_within, reads_within, scan_slot, suits}
@@ -31,11 +31,11 @@ use Rattle.iso_types.specs.declared.value.Value.{Value}
 
 committed-fits : (head : Head) (t : TableId) (vs : List Version) (row : List Value) → AllFit head t vs → committed vs ≡ Some row → row_fits head t row ≡ true
 committed-fits head t [] row h e = absurd (cc)
-committed-fits head t (v ∷ vs) row h e = go v.pending e
+committed-fits head t (v ∷ vs) row h e = go v.pending (λ k. committed-fits head t vs row h.1 k) e
   where
-    go : (b : Bool) → (if b then committed vs else v.row) ≡ Some row → row_fits head t row ≡ true
-    go true k = committed-fits head t vs row h.1 k
-    go false k = subst (λ (o : Option (List Value)). Fits head t o) k h.0
+    go : (b : Bool) → (committed vs ≡ Some row → row_fits head t row ≡ true) → (if b then committed vs else v.row) ≡ Some row → row_fits head t row ≡ true
+    go true ih k = ih k
+    go false ih k = subst (λ (o : Option (List Value)). Fits head t o) k h.0
 
 view-fits : (head : Head) (t : TableId) (u : ℕ) (vs : List Version) (row : List Value) → AllFit head t vs → view_of u vs ≡ Some row
     → row_fits head t row ≡ true

@@ -43,8 +43,8 @@ use Rattle.iso_types.specs.declared.value.TableId.{TableId}
 -- a step that goes on
 pub goes : (head : Head) (es new : List Entry) (c : Conn) (a : Act) (kept : Kept) → new ≡ es ++ by_agent c a ∷ [] → ends a ≡ false
     → Tells kept (heard (world head es) (after head (world head es) (by_agent c a)) c a) → HasPin kept → HasStepped head es new c a (Goes kept)
-goes head es new c a kept is goes tells pin =
-    (is, goes, subst (λ v. Tells kept (heard (world head es) v c a)) (sym (ap (world head) is ∙ world-snoc head es (by_agent c a))) tells, pin)
+goes head es new c a kept is unended tells pin =
+    (is, unended, subst (λ v. Tells kept (heard (world head es) v c a)) (sym (ap (world head) is ∙ world-snoc head es (by_agent c a))) tells, pin)
 
 -- a step that can't be made for a fault
 pub stops-by : (head : Head) (es new : List Entry) (c : Conn) (a : Act) (fault : StepFault) → new ≡ es

@@ -1,5 +1,5 @@
 -- The undo of a unit's last record, and the end of what has none left.
-use Rattle.std.proofs.Common.{◌≡◌, ⊥, ℕ, Bool, true, false, not, List, [], ◌∷◌, ◌++◌, refl, Option, Some, None, arith}
+use Rattle.std.proofs.Common.{◌≡◌, ℕ, Bool, true, false, not, List, [], ◌∷◌, ◌++◌, refl, Option, Some, None, arith}
 use Rattle.std.proofs.lemmas.Bool.Decides.{nat_tests}
 use Rattle.std.specs.Option.{option_map_or}
 use Rattle.std.specs.Prelude.{nat_lt, slice_get, unwrap_or}

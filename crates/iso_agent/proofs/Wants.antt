@@ -18,7 +18,7 @@ use Rattle.iso_history.proofs.limits.Waiting.{waiting-unqueued}
 use Rattle.iso_history.specs.After.{after}
 use Rattle.iso_history.specs.Courses.{CourseAt}
 use Rattle.iso_history.specs.Fitted.{RowsFit}
-use Rattle.iso_history.specs.Legal.{ByAgent}
+use Rattle.iso_history.specs.Legal.{ByAgent, is_fresh_on}
 use Rattle.iso_history.specs.Makers.{by_agent}
 use Rattle.iso_history.specs.Phases.{is_phase, phase}
 use Rattle.iso_history.specs.World.{World}
@@ -32,7 +32,7 @@ use Rattle.iso_types.specs.declared.desk.Phase.TheVariants.{Running}
 use Rattle.iso_types.specs.declared.head.Head.{Head}
 use Rattle.iso_types.specs.declared.value.Conn.{Conn}
 use Rattle.iso_types.specs.declared.value.Name.{Name}
-use Rattle.iso_types.specs.declared.value.Name.TheVariants.{Table}
+use Rattle.iso_types.specs.declared.value.Name.TheVariants.{Row, Table}
 
 -- ---- memory
 
@@ -105,6 +105,6 @@ can-heard head w v c p g few fits answers = go (is_look (act_due head w c p)) re
         let left = look-left w p.statement p.kept p.left m.table m.rid m.want m.move_is g.within in
         subst (λ x. CanTell p (heard w v c x)) (sym m.act_is) (
           (subst (λ x. AreAnswers p (heard w v c x)) m.act_is answers).0,
-          may-tell-shown head w p g m.table m.want m.rid.0 left.0 left.1 c m.rid m.want _ few fits,
+          may-tell-shown head w p g m.table m.want m.rid.0 left.0 left.1 c m.rid m.want (is_fresh_on v c (Row m.table m.rid)) few fits,
           tt,
         )
