@@ -1,6 +1,6 @@
 -- An agent fits a history: its task, once told what is kept, is at the point that the own entries of its connection have reached.
 use Rattle.std.specs.Option.{option_map}
-use Rattle.std.specs.Prelude.{◌≡◌, ⊥, Bool, true, false, ◌||◌, List, [], ◌∷◌, Option, Some, None}
+use Rattle.std.specs.Prelude.{◌≡◌, Bool, true, false, ◌||◌, List, [], ◌∷◌, Option, Some, None}
 use Rattle.iso_agent.specs.declared.agent.Kept.{Kept}
 use Rattle.iso_agent.specs.declared.agent.Kept.TheVariants.{Answer, Nothing, Rebuild, Stop}
 use Rattle.iso_conduct.specs.Answers.{answers}
@@ -12,6 +12,7 @@ use Rattle.iso_history.specs.After.{world}
 use Rattle.iso_history.specs.Phases.{phase}
 use Rattle.iso_history.specs.declared.entry.Entry.{Entry}
 use Rattle.iso_rebuild.specs.Chains.{HasChain, IsRebuilt}
+use Rattle.iso_rebuild.specs.declared.past.Past.{Past}
 use Rattle.iso_script.specs.declared.script.Line.{Line}
 use Rattle.iso_script.specs.declared.script.Script.{Script}
 use Rattle.iso_types.specs.declared.desk.Phase.TheVariants.{Running}
@@ -34,7 +35,8 @@ shows row = Told.Shown row false ∷ []
 abbrev pub Tells : Kept → List Told → Type 0
 Tells Nothing ts = ts ≡ []
 Tells (Answer first second) ts = ts ≡ told_list first second
-Tells (Rebuild past) ts = (row : Option (List Value)) → IsRebuilt past row → ts ≡ shows row
+Tells (Rebuild past) ts =
+    (shown : Option (List Value)) × ((row : Option (List Value)) → IsRebuilt past row → row ≡ shown) × (ts ≡ shows shown)
 Tells Stop ts = ⊥
 
 -- nothing is left to be told
@@ -48,12 +50,17 @@ abbrev pub wants : Point → List Told → Bool
 wants p [] = false
 wants p (t ∷ ts) = takes_memory p t || wants (told_point p t) ts
 
+-- the same of a task, where there is one
+abbrev pub wants_in : Option Point → List Told → Bool
+wants_in None ts = false
+wants_in (Some p) ts = wants p ts
+
 -- memory may be wanting for what is kept, or was
 abbrev pub may_want : Option Point → Kept → Bool
-may_want (Some p) (Answer first second) = wants p (told_list first second)
+may_want task Nothing = false
+may_want task (Answer first second) = wants_in task (told_list first second)
 may_want task (Rebuild past) = true
 may_want task Stop = true
-may_want task _ = false
 
 -- ---- an agent at a history
 
@@ -87,19 +94,33 @@ abbrev pub CanTell : Point → List Told → Type 0
 CanTell p [] = Unit {0}
 CanTell p (t ∷ ts) = (answers (due p) t ≡ true) × MayTell p t × CanTell (told_point p t) ts
 
+-- there is a task, and it can be told these
+abbrev pub CanTellTo : Option Point → List Told → Type 0
+CanTellTo None ts = ⊥
+CanTellTo (Some p) ts = CanTell p ts
+
 -- what is kept can be told: there is a task, and what is pinned can be rebuilt
 abbrev pub CanSettle : Option Point → Kept → Type 0
-CanSettle (Some p) (Answer first second) = CanTell p (told_list first second)
-CanSettle (Some p) (Rebuild past) = HasChain past × ((row : Option (List Value)) → IsRebuilt past row → CanTell p (shows row))
-CanSettle None (Answer first second) = ⊥
-CanSettle None (Rebuild past) = ⊥
-CanSettle task _ = Unit {0}
+CanSettle task Nothing = Unit {0}
+CanSettle task (Answer first second) = CanTellTo task (told_list first second)
+CanSettle task (Rebuild past) = HasChain past × ((row : Option (List Value)) → IsRebuilt past row → CanTellTo task (shows row))
+CanSettle task Stop = Unit {0}
+
+-- the task was told these; or memory was wanting for one of them, and a stop is kept
+abbrev pub HasTold : Option Point → List Told → Option Point → Kept → Type 0
+HasTold task ts after Nothing = after ≡ told_to task ts
+HasTold task ts after Stop = wants_in task ts ≡ true
+HasTold task ts after last = ⊥
+
+-- of a pinned slot it was told what the pin is rebuilt to
+abbrev pub HasRebuilt : Option Point → Past → Option Point → Kept → Type 0
+HasRebuilt task past after Nothing = (row : Option (List Value)) × IsRebuilt past row × (after ≡ told_to task (shows row))
+HasRebuilt task past after Stop = Unit {0}
+HasRebuilt task past after last = ⊥
 
 -- the task was told what was kept; or memory was wanting for it, and a stop is kept
 abbrev pub HasSettled : Option Point → Kept → Option Point → Kept → Type 0
 HasSettled task Nothing after last = (after ≡ task) × (last ≡ Nothing)
+HasSettled task (Answer first second) after last = HasTold task (told_list first second) after last
+HasSettled task (Rebuild past) after last = HasRebuilt task past after last
 HasSettled task Stop after last = last ≡ Stop
-HasSettled task (Answer first second) after Nothing = after ≡ told_to task (told_list first second)
-HasSettled task (Rebuild past) after Nothing = (row : Option (List Value)) × IsRebuilt past row × (after ≡ told_to task (shows row))
-HasSettled task kept after Stop = may_want task kept ≡ true
-HasSettled task kept after last = ⊥
