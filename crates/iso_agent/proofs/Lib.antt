@@ -1,0 +1,17 @@
+pub mod Rested
+pub mod Running
+pub mod Finished
+pub mod Pinned
+pub mod Stepping
+pub mod ScanSteps
+pub mod LookMade
+pub mod ScansBegin
+pub mod ScansAlong
+pub mod ShownRows
+pub mod Leaves
+pub mod Doomed
+pub mod Wants
+pub mod Turning
+pub mod LookStepping
+pub mod WriteStepping
+pub mod Undoing

@@ -1,0 +1,6 @@
+pub mod Fits
+pub mod Turns
+pub mod Steps
+pub mod Quiet
+pub mod Scans
+pub mod Ways

@@ -1,0 +1,9 @@
+mod Begins
+mod Circle
+mod Ends
+mod Heads
+mod Lines
+mod Rests
+mod Scheduled
+mod Whole
+mod Whose

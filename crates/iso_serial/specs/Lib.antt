@@ -1,0 +1,3 @@
+-- The turns of a run on one thread.
+pub mod Rounds
+pub mod UnderWay

@@ -1,0 +1,62 @@
+//! The step of a look, as an agent makes it.
+ghost use Rattle.std.specs.Prelude.{◌≡◌, ◌≤◌, ◌<◌, length, false, IsTrue};
+ghost use Rattle.iso_history.specs.Legal.{Runs};
+ghost use Rattle.iso_history.specs.Looks.{may_look};
+ghost use Rattle.iso_history.specs.Outcomes.{look_act};
+ghost use Rattle.iso_history.specs.Versions.{slots};
+ghost use Rattle.iso_state.specs.Stands.{StandsFor, world_of};
+ghost use Rattle.iso_types.specs.Head.{is_table};
+ghost use Rattle.iso_agent.specs.Steps.{HasStepped, kept_of_look};
+
+use crate::agent::Kept;
+use crate::stepped::{Stepped, cause_of, keep, keep_escalation, waits};
+use iso_conduct::Told;
+use iso_history::Want;
+use iso_reads::{Looked, look};
+use iso_state::{Parts, is_fresh_on};
+use iso_types::{Conn, Name, Rid, TableId};
+use std::alloc::Global;
+
+/// What is kept of the answer to a look.
+fn keep_look(looked: Looked, fresh: bool, waits: bool) -> Kept
+    ensures { result ≡ kept_of_look looked fresh waits }
+{
+    match looked {
+        Looked::Shown(row) => keep(Told::Shown(row, fresh)),
+        Looked::Pinned(past) => Kept::Rebuild(past),
+        Looked::EndOfTable => keep(Told::EndOfTable),
+        Looked::Queued => keep(Told::Queued),
+        Looked::TimedOut => keep(Told::TimedOut),
+        Looked::Escalates(table) => keep_escalation(Told::Escalates(table), waits),
+        Looked::Refused(code) => keep(Told::Refused(code)),
+    }
+}
+
+/// Makes the entry of a look.
+pub fn make_look(
+    alloc: Global,
+    parts: &mut Parts,
+    conn: Conn,
+    table: TableId,
+    rid: Rid,
+    want: Want,
+) -> Stepped
+    requires stands { StandsFor parts.old }
+    requires open { (world_of parts.old).pace.finished ≡ false }
+    requires conn { conn.0 < length parts.old.head.conns }
+    requires runs { Runs (world_of parts.old) conn }
+    requires table { IsTrue (is_table parts.old.head table) }
+    requires rid { rid.0 ≤ slots (world_of parts.old) table }
+    requires may { rid.0 < slots (world_of parts.old) table → IsTrue (may_look parts.old.head (world_of parts.old) conn table rid want) }
+    ensures stands { StandsFor parts.new }
+    ensures head { parts.new.head ≡ parts.old.head }
+    ensures stepped { HasStepped parts.old.head parts.old.history.items parts.new.history.items conn (look_act parts.old.head (world_of parts.old) conn table rid want) result }
+{
+    match look(alloc, parts, conn, table, rid, want) {
+        Ok(looked) => {
+            let fresh = is_fresh_on(parts, conn, &Name::Row(table, rid));
+            Stepped::Goes(keep_look(looked, fresh, waits(parts, conn)))
+        }
+        Err(fault) => Stepped::Stops(cause_of(fault)),
+    }
+}
