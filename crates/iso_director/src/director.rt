@@ -134,9 +134,10 @@ impl Director {
     /// next line's entry, where it may be taken; where no line is left or somebody stopped, the close of the least idle
     /// connection once all is quiet, and at last the end of the history. For want of memory, or of room in the history, the
     /// dispatcher stops in place of a line's entry. `Ran`: one entry is made. `Rests`: it has none to make; `Ended`: the history
-    /// is over; all is as it was then. It looks at no line but the next. A circle is sought at each call: the lock list is asked
-    /// once for each connection, and up to three times more where a line or a close wants quiet; a SNAPSHOT sorts the names of
-    /// all locks. (This project's own.)
+    /// is over; all is as it was then. It looks at no line but the next. A circle is sought at each call, as by `detect`: where
+    /// fewer than two connections wait the phases alone are looked at; else the lock list is asked once for each connection that
+    /// waits, and up to three times more where a line or a close wants quiet. A SNAPSHOT sorts the names of all locks. (This
+    /// project's own.)
     pub fn make(&mut self, script: &Script, parts: &mut Parts) -> Led
         requires stands { StandsFor parts.old }
         requires plain { length parts.old.head.indexes ≡ 0 } // keys come next
