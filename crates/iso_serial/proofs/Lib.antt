@@ -1,3 +1,4 @@
+mod Alone
 mod Begins
 mod Circle
 mod Ends

@@ -2,7 +2,9 @@
 #![tactic(auto)]
 
 mod agents;
+mod laws;
 mod run;
 mod turns;
 
+pub use laws::one_history_is_scheduled;
 pub use run::run_serial;
