@@ -12,3 +12,4 @@ mod Escalation
 mod UniqueWait
 mod Nulls
 mod RepeatableTable
+mod Damaged
