@@ -15,3 +15,4 @@ pub mod Turning
 pub mod LookStepping
 pub mod WriteStepping
 pub mod Undoing
+pub mod Quieting

@@ -110,7 +110,7 @@ impl Agent {
     }
 
     /// Makes the entry of the step that is due, or stops in its place.
-    fn go_on(&mut self, alloc: Global, script: &Script, parts: &mut Parts, mut task: Task)
+    fn go_on(&mut self, alloc: Global, script: &Script, parts: &mut Parts, task: Task)
         requires stands { StandsFor parts.old }
         requires open { (world_of parts.old).pace.finished ≡ false }
         requires plain { length parts.old.head.indexes ≡ 0 } // keys come next
@@ -118,8 +118,8 @@ impl Agent {
         requires sound { IsSound script.now }
         requires conn { self.old.conn.0 < length parts.old.head.conns }
         requires goes { GoesOn (world_of parts.old) self.old.conn }
-        requires ready { ready parts.old.head script.now.lines (world_of parts.old) self.old.conn (point parts.old.head script.now.lines parts.old.history.items self.old.conn) ≡ Some task.entry }
-        requires may { MayGoOn parts.old.head (world_of parts.old) self.old.conn task.entry }
+        requires ready { ready parts.old.head script.now.lines (world_of parts.old) self.old.conn (point parts.old.head script.now.lines parts.old.history.items self.old.conn) ≡ Some task }
+        requires may { MayGoOn parts.old.head (world_of parts.old) self.old.conn task }
         requires conduct { Conduct parts.old.head script.now.lines parts.old.history.items self.old.conn }
         ensures stands { StandsFor parts.new }
         ensures head { parts.new.head ≡ parts.old.head }
@@ -127,6 +127,7 @@ impl Agent {
         ensures turned { HasTurned parts.old.history.items parts.new.history.items self.old.conn turns.Ran }
         ensures leaves { Leaves parts.old.head script.now.lines parts.new.history.items self.old.conn self.new.task self.new.kept }
     {
+        let mut task = task;
         match step_due(alloc, parts, self.conn, &mut task) {
             Stepped::Goes(kept) => {
                 self.task = Some(task);
