@@ -16,3 +16,5 @@ pub mod LookStepping
 pub mod WriteStepping
 pub mod Undoing
 pub mod Quieting
+pub mod Making
+pub mod Dues

@@ -141,6 +141,30 @@ impl Agent {
         }
     }
 
+    /// Makes the next entry of a statement of which nothing is left to be told.
+    fn go(&mut self, alloc: Global, script: &Script, parts: &mut Parts)
+        requires stands { StandsFor parts.old }
+        requires open { (world_of parts.old).pace.finished ≡ false }
+        requires plain { length parts.old.head.indexes ≡ 0 } // keys come next
+        requires head { parts.old.head ≡ script.now.head }
+        requires sound { IsSound script.now }
+        requires conn { self.old.conn.0 < length parts.old.head.conns }
+        requires goes { GoesOn (world_of parts.old) self.old.conn }
+        requires reached { self.old.task ≡ point parts.old.head script.now.lines parts.old.history.items self.old.conn }
+        requires conduct { Conduct parts.old.head script.now.lines parts.old.history.items self.old.conn }
+        ensures stands { StandsFor parts.new }
+        ensures head { parts.new.head ≡ parts.old.head }
+        ensures conn { self.new.conn ≡ self.old.conn }
+        ensures turned { HasTurned parts.old.history.items parts.new.history.items self.old.conn turns.Ran }
+        ensures leaves { Leaves parts.old.head script.now.lines parts.new.history.items self.old.conn self.new.task self.new.kept }
+    {
+        let task = self.task.take();
+        match ready_task(alloc, script, parts, self.conn, task) {
+            Ok(task) => self.go_on(alloc, script, parts, task),
+            Err(_) => self.stop(script, parts, Cause::Memory),
+        }
+    }
+
     /// Makes the next entry of a connection that is able and not closing.
     fn run(&mut self, alloc: Global, script: &Script, parts: &mut Parts)
         requires stands { StandsFor parts.old }
@@ -157,13 +181,11 @@ impl Agent {
         ensures turned { HasTurned parts.old.history.items parts.new.history.items self.old.conn turns.Ran }
         ensures leaves { Leaves parts.old.head script.now.lines parts.new.history.items self.old.conn self.new.task self.new.kept }
     {
-        if let Kept::Stop = self.kept {
-            return self.stop(script, parts, Cause::Memory);
-        }
-        let task = self.task.take();
-        match ready_task(alloc, script, parts, self.conn, task) {
-            Ok(task) => self.go_on(alloc, script, parts, task),
-            Err(_) => self.stop(script, parts, Cause::Memory),
+        match self.kept {
+            Kept::Nothing => self.go(alloc, script, parts),
+            Kept::Answer { .. } => unreachable!(),
+            Kept::Rebuild(_) => unreachable!(),
+            Kept::Stop => self.stop(script, parts, Cause::Memory),
         }
     }
 

@@ -69,7 +69,7 @@ returns-in-Goes-clause-leaves c =
     let plain = plain-at p.head lines conn c.requires.plain sound p.history.items c.args.task c.requires.conduct c.requires.ready in
     let stepped = subst (λ s. HasStepped p.head p.history.items m.history.items conn (act_due p.head (world_of p) conn c.args.task) s) c.in-Goes.is c.step_due.ensures.stepped in
     let ground = subst (λ h. Ground h m.history.items) c.step_due.ensures.head c.step_due.ensures.stands.stands.ground in
-    subst (λ t. Leaves p.head lines m.history.items conn (Some t) c.in-Goes.kept) (sym c.in-Goes.ensures.same)
+    subst (λ t. Leaves p.head lines m.history.items conn (Some t) c.in-Goes.kept) (sym (c.in-Goes.ensures.same refl))
     (stepped-leaves p.head lines p.history.items conn c.args.task c.requires.stands.stands.ground c.requires.conduct c.requires.goes c.requires.ready
     m.history.items ground c.requires.stands.stands.fits.conns c.requires.stands.stands.fits.rows plain c.in-Goes.kept stepped)
 
