@@ -40,7 +40,7 @@ use Rattle.iso_types.specs.declared.value.Value.{Value}
 some-is : {A : Type 0} (a b : A) → Some a ≡ Some b → a ≡ b
 some-is a b h = cc
 
-found-all : {A : Type 0} (p q : A → Bool) (xs : List A) (x : A) → list_all q xs ≡ true → find p xs ≡ Some x → q x ≡ true
+pub found-all : {A : Type 0} (p q : A → Bool) (xs : List A) (x : A) → list_all q xs ≡ true → find p xs ≡ Some x → q x ≡ true
 found-all p q [] x all e = absurd (cc)
 found-all p q (y ∷ ys) x all e = go (p y) (found-all p q ys x (and_parts (q y) (list_all q ys) all).1) e
   where
@@ -73,7 +73,7 @@ statement-sound head lines c (Some n) s sound e =
 
 -- ---- its parts
 
-none-of : {A : Type 0} (xs : List A) → length xs ≡ 0 → xs ≡ []
+pub none-of : {A : Type 0} (xs : List A) → length xs ≡ 0 → xs ≡ []
 none-of [] e = refl
 none-of (x ∷ xs) e = absurd (omega (arith, e))
 
