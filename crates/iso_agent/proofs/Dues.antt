@@ -9,9 +9,9 @@ use Rattle.iso_history.proofs.limits.Waiting.{conn_eq-is, conn_eq-refl}
 use Rattle.iso_history.specs.After.{after, world}
 use Rattle.iso_history.specs.Courses.{CourseAt, OnCourse}
 use Rattle.iso_history.specs.Lasts.{due_of}
-use Rattle.iso_history.specs.Legal.{Allowed, By, ByAgent, ByDispatcher, Ground, may_undo}
+use Rattle.iso_history.specs.Legal.{By, ByAgent, ByDispatcher, Ground, may_undo}
 use Rattle.iso_history.specs.Makers.{by_agent, by_dispatcher}
-use Rattle.iso_history.specs.Phases.{is_phase, phase}
+use Rattle.iso_history.specs.Phases.{phase}
 use Rattle.iso_history.specs.World.{World}
 use Rattle.iso_history.specs.declared.entry.Act.{Act}
 use Rattle.iso_history.specs.declared.entry.Act.TheVariants.{Claim, Close, Dispatch, Lock}
@@ -21,7 +21,7 @@ use Rattle.iso_history.specs.declared.entry.Who.TheVariants.{Agent, Dispatcher}
 use Rattle.iso_queue.specs.Queues.{is_waiting}
 use Rattle.iso_types.specs.Ids.{conn_eq}
 use Rattle.iso_types.specs.declared.desk.Phase.{Phase}
-use Rattle.iso_types.specs.declared.desk.Phase.TheVariants.{Closing, Idle, Running}
+use Rattle.iso_types.specs.declared.desk.Phase.TheVariants.{Closing, Idle}
 use Rattle.iso_types.specs.declared.head.Head.{Head}
 use Rattle.iso_types.specs.declared.value.Conn.{Conn}
 

@@ -1,56 +1,23 @@
--- What an agent between two turns has, over the parts' head.
-use Rattle.std.proofs.Common.{◌≡◌, ◌⊎◌, inl, inr, ◌<◌, Bool, true, false, ◌||◌, ◌&&◌, List, Option, Some, None, length, refl, subst, sym}
+-- A connection that goes on: its statement has begun, or it runs; and no Finish stands.
+use Rattle.std.proofs.Common.{◌≡◌, ◌⊎◌, inl, inr, ◌<◌, Bool, true, false, ◌||◌, ◌&&◌, List, Option, Some, None, length, refl, subst}
 use Rattle.std.proofs.lemmas.Bool.{lt-ltb}
 use Rattle.std.specs.Prelude.{is_some}
 use Rattle.iso_agent.proofs.Doomed.{rolling-open}
 use Rattle.iso_agent.proofs.Finished.{going-on}
-use Rattle.iso_agent.proofs.Leaves.{stop-may}
-use Rattle.iso_agent.proofs.Stepping.{running-stops}
-use Rattle.iso_agent.specs.Fits.{CanSettle, Fits, IsRested, is_settled}
-use Rattle.iso_agent.specs.declared.agent.Kept.{Kept}
-use Rattle.iso_agent.specs.declared.agent.Kept.TheVariants.{Answer, Nothing, Rebuild, Stop}
 use Rattle.iso_conduct.proofs.PairedAlong.{next_at, waiting-claims}
-use Rattle.iso_conduct.specs.Conduct.{Conduct, MayIn, point}
+use Rattle.iso_conduct.specs.Conduct.{Conduct, point}
 use Rattle.iso_conduct.specs.Points.{Point}
 use Rattle.iso_history.specs.After.{world}
-use Rattle.iso_history.specs.Legal.{By, Ground}
+use Rattle.iso_history.specs.Legal.{Ground}
 use Rattle.iso_history.specs.Phases.{is_phase, phase}
-use Rattle.iso_history.specs.Quiet.{is_able}
-use Rattle.iso_history.specs.World.{World}
-use Rattle.iso_history.specs.declared.entry.Act.TheVariants.{Stopped}
-use Rattle.iso_history.specs.declared.entry.Cause.TheVariants.{Memory}
 use Rattle.iso_history.specs.declared.entry.Entry.{Entry}
-use Rattle.iso_history.specs.declared.entry.Who.TheVariants.{Agent}
 use Rattle.iso_queue.specs.Queues.{is_grantable}
 use Rattle.iso_script.specs.declared.script.Line.{Line}
-use Rattle.iso_script.specs.declared.script.Script.{Script}
 use Rattle.iso_standing.specs.Going.{GoesOn}
 use Rattle.iso_types.specs.declared.desk.Phase.{Phase}
 use Rattle.iso_types.specs.declared.desk.Phase.TheVariants.{Closing, Idle, Rolling, Running}
 use Rattle.iso_types.specs.declared.head.Head.{Head}
 use Rattle.iso_types.specs.declared.value.Conn.{Conn}
-
-pub rested-fits : (script : Script) (head : Head) (es : List Entry) (c : Conn) (task : Option Point) (kept : Kept) → head ≡ script.head
-    → IsRested script es c task kept → Fits head script.lines es c task kept
-rested-fits script head es c task kept is r = subst (λ h. Fits h script.lines es c task kept) (sym is) r.fits
-
-pub rested-conduct : (script : Script) (head : Head) (es : List Entry) (c : Conn) (task : Option Point) (kept : Kept) → head ≡ script.head
-    → IsRested script es c task kept → Conduct head script.lines es c
-rested-conduct script head es c task kept is r = subst (λ h. Conduct h script.lines es c) (sym is) r.conduct
-
--- what is settled can be settled
-pub settled-settles : (task : Option Point) (kept : Kept) → is_settled kept ≡ true → CanSettle task kept
-settled-settles task Nothing e = tt
-settled-settles task Stop e = tt
-settled-settles task (Answer first second) e = absurd (cc)
-settled-settles task (Rebuild past) e = absurd (cc)
-
--- a connection that runs may stop for want of memory
-pub running-stop : (head : Head) (lines : List Line) (es : List Entry) (c : Conn) → c.0 < length head.conns → phase (world head es) c ≡ Running
-    → By head (world head es) (Agent c) (Stopped Memory) × MayIn (phase (world head es) c) head lines (world head es) c (point head lines es c) (Stopped Memory)
-running-stop head lines es c lt runs =
-    let may = running-stops head (world head es) c runs in
-    ((lt-ltb c.0 (length head.conns) lt, may), stop-may head lines (world head es) c (point head lines es c) may)
 
 abbrev able_by : Phase → Bool → Bool
 able_by f g = (is_phase f Running || is_phase f Rolling || is_phase f Closing) || (is_phase f Phase.Waiting && g)

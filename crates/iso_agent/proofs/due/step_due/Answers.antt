@@ -1,4 +1,4 @@
-use Rattle.std.proofs.Common.{◌≡◌, ◌∙◌, ℤ, List, ap, rules, subst, sym, SFits, w32, to_z-of_z}
+use Rattle.std.proofs.Common.{◌∙◌, ℤ, List, rules, subst, sym, SFits, w32, to_z-of_z}
 use Rattle.iso_agent.specs.Steps.{HasStepped}
 use Rattle.iso_conduct.specs.Outcomes.{act_of}
 use Rattle.iso_conduct.specs.Points.{row_due, rows_due}

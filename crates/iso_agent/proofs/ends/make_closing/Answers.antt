@@ -1,4 +1,4 @@
-use Rattle.std.proofs.Common.{◌≡◌, ◌∙◌, List, ap, sym, ℕ, [], subst}
+use Rattle.std.proofs.Common.{◌≡◌, ◌∙◌, sym, [], subst}
 use Rattle.iso_agent.proofs.Dues.{closing-undoes}
 use Rattle.iso_agent.proofs.Undoing.{none-last, none-left}
 use Rattle.iso_history.specs.After.{world}

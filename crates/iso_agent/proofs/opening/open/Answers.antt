@@ -1,4 +1,4 @@
-use Rattle.std.proofs.Common.{◌≡◌, ◌<◌, ◌∙◌, ℕ, List, Some, arith, find, length, subst, sym}
+use Rattle.std.proofs.Common.{◌≡◌, ◌<◌, List, Some, arith, find, length, subst, sym}
 use Rattle.std.specs.Option.{option_map}
 use Rattle.std.specs.Prelude.{◌==◌, IfOk}
 use Rattle.iso_agent.proofs.Quieting.{desk-opens}

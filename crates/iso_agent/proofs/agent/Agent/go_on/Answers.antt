@@ -1,8 +1,7 @@
-use Rattle.std.proofs.Common.{◌≡◌, List, refl, subst, sym, true, ◌∙◌}
+use Rattle.std.proofs.Common.{◌≡◌, List, refl, subst, sym, true}
 use Rattle.std.specs.List.{list_all}
 use Rattle.iso_agent.proofs.ScansAlong.{plain-at}
 use Rattle.iso_agent.proofs.Turning.{ended-leaves, made-at, stepped-leaves, stops-made}
-use Rattle.iso_agent.specs.Scans.{IsPlainAt}
 use Rattle.iso_agent.specs.Steps.{HasStepped, act_due}
 use Rattle.iso_agent.specs.Turns.{Leaves}
 use Rattle.iso_conduct.specs.Conduct.{MayIn, point}
