@@ -1,19 +1,18 @@
 -- A connection that has to roll back has an open statement with an own entry.
-use Rattle.std.proofs.Common.{◌≡◌, ℕ, Bool, true, false, ◌||◌, ◌&&◌, not, List, [], ◌∷◌, ◌++◌, refl, sym, ap, ◌∙◌, subst, Option, Some, None, if◌then◌else◌}
-use Rattle.std.specs.Option.{option_map}
+use Rattle.std.proofs.Common.{◌≡◌, ℕ, Bool, true, false, List, [], ◌∷◌, refl, sym, ap, ◌∙◌, subst, Option, Some, None, if◌then◌else◌}
 use Rattle.std.specs.Prelude.{is_none, is_some}
 use Rattle.iso_conduct.proofs.PairedAlong.{IsTied, next_at, tied-along}
-use Rattle.iso_conduct.specs.Conduct.{Conduct, ConductFrom, Does, IsNext, MayIn, Rolls, ends, heard, is_by, moved_by, moved_in, point, point_after, point_from, ready, stops_for_memory}
-use Rattle.iso_conduct.specs.Points.{Point, told_all}
+use Rattle.iso_conduct.specs.Conduct.{Conduct, ConductFrom, Does, IsNext, MayIn, Rolls, ends, moved_by, moved_in, point, point_after, point_from, ready, stops_for_memory}
+use Rattle.iso_conduct.specs.Points.{Point}
 use Rattle.iso_history.proofs.limits.Courses.{is_phase-is}
 use Rattle.iso_history.proofs.limits.Others.{others-agent}
 use Rattle.iso_history.proofs.limits.Stations.{closing-parts, rolling-parts, waiting-parts, running-parts}
 use Rattle.iso_history.proofs.limits.Victims.{has_victim}
 use Rattle.iso_history.proofs.limits.Waiting.{conn_eq-is, conn_eq-refl, conn_eq-sym}
 use Rattle.iso_history.specs.After.{after, start, world, world_from}
-use Rattle.iso_history.specs.Legal.{Allowed, By, ByAgent, ByDispatcher, Ground, GroundFrom}
+use Rattle.iso_history.specs.Legal.{By, ByAgent, ByDispatcher, Ground, GroundFrom}
 use Rattle.iso_history.specs.Makers.{by_agent, by_dispatcher}
-use Rattle.iso_history.specs.Phases.{closing_by, is_phase, phase}
+use Rattle.iso_history.specs.Phases.{closing_by, phase}
 use Rattle.iso_history.specs.World.{World}
 use Rattle.iso_history.specs.declared.entry.Act.{Act}
 use Rattle.iso_history.specs.declared.entry.Act.TheVariants.{Close, Commit, Expire, Reply, Rollback, Stopped, Victim}

@@ -7,7 +7,7 @@ use Rattle.std.specs.List.{list_all}
 use Rattle.iso_history.proofs.Snoc.{along}
 use Rattle.iso_history.proofs.limits.Totals.{not-true}
 use Rattle.iso_history.specs.After.{after, world}
-use Rattle.iso_history.specs.Legal.{Allowed, By, Ground}
+use Rattle.iso_history.specs.Legal.{By, Ground}
 use Rattle.iso_history.specs.Paces.{is_finish}
 use Rattle.iso_history.specs.Quiet.{all_ended}
 use Rattle.iso_history.specs.World.{World}

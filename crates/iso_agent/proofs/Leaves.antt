@@ -1,13 +1,12 @@
 -- What a turn that made an entry leaves of its agent.
-use Rattle.std.proofs.Common.{◌≡◌, ◌⊎◌, inl, inr, ℕ, Bool, true, false, ◌||◌, ◌&&◌, List, [], ◌∷◌, ◌++◌, refl, sym, ap, ◌∙◌, subst, Option, Some, None, if◌then◌else◌}
-use Rattle.std.specs.Prelude.{IsTrue, not}
-use Rattle.iso_agent.specs.Fits.{CanSettle, CanTell, Fits, Reaches, Tells, may_want, shows, told_list, told_to, wants}
+use Rattle.std.proofs.Common.{◌≡◌, Bool, true, false, ◌||◌, ◌&&◌, List, [], ◌∷◌, ◌++◌, refl, sym, ap, ◌∙◌, subst, Option, Some, None, if◌then◌else◌}
+use Rattle.iso_agent.specs.Fits.{CanSettle, CanTell, Reaches, Tells, may_want, shows, wants}
 use Rattle.iso_agent.specs.Steps.{HasPin}
 use Rattle.iso_agent.specs.Turns.{Leaves}
 use Rattle.iso_agent.specs.declared.agent.Kept.{Kept}
 use Rattle.iso_agent.specs.declared.agent.Kept.TheVariants.{Answer, Nothing, Rebuild, Stop}
 use Rattle.iso_conduct.proofs.Snoc.{Conduct-snoc, point-snoc}
-use Rattle.iso_conduct.specs.Conduct.{Conduct, IsNext, MayIn, Rolls, ends, heard, made, moved, moved_in, point, ready, stops_for_memory}
+use Rattle.iso_conduct.specs.Conduct.{Conduct, IsNext, MayIn, Rolls, ends, heard, made, moved, moved_in, point, ready}
 use Rattle.iso_conduct.specs.Points.{Point, told_all}
 use Rattle.iso_conduct.specs.declared.moves.Told.{Told}
 use Rattle.iso_history.proofs.Snoc.{world-snoc}
@@ -15,7 +14,6 @@ use Rattle.iso_history.proofs.limits.Waiting.{conn_eq-refl}
 use Rattle.iso_history.specs.After.{after, world}
 use Rattle.iso_history.specs.Makers.{by_agent}
 use Rattle.iso_history.specs.Phases.{is_phase, phase}
-use Rattle.iso_history.specs.Quiet.{is_able}
 use Rattle.iso_history.specs.Stops.{may_stop}
 use Rattle.iso_history.specs.World.{World}
 use Rattle.iso_history.specs.declared.entry.Act.{Act}
@@ -23,14 +21,12 @@ use Rattle.iso_history.specs.declared.entry.Act.TheVariants.{Stopped}
 use Rattle.iso_history.specs.declared.entry.Cause.TheVariants.{Memory}
 use Rattle.iso_history.specs.declared.entry.Entry.{Entry}
 use Rattle.iso_queue.specs.Queues.{is_grantable}
-use Rattle.iso_rebuild.specs.Chains.{IsRebuilt}
 use Rattle.iso_script.specs.declared.script.Line.{Line}
 use Rattle.iso_standing.specs.Going.{GoesOn}
 use Rattle.iso_types.specs.declared.desk.Phase.{Phase}
 use Rattle.iso_types.specs.declared.desk.Phase.TheVariants.{Closing, Idle, Rolling, Running}
 use Rattle.iso_types.specs.declared.head.Head.{Head}
 use Rattle.iso_types.specs.declared.value.Conn.{Conn}
-use Rattle.iso_types.specs.declared.value.Value.{Value}
 
 -- ---- what a connection may make
 

@@ -15,3 +15,6 @@ pub mod Turning
 pub mod LookStepping
 pub mod WriteStepping
 pub mod Undoing
+pub mod Quieting
+pub mod Making
+pub mod Dues

@@ -1,5 +1,5 @@
 -- What is kept of a look's answer is what its statement hears of the entry.
-use Rattle.std.proofs.Common.{◌≡◌, ◌<◌, Bool, true, false, List, [], ◌∷◌, ◌++◌, refl, sym, ap, ◌∙◌, subst, Option, Some, None, if◌then◌else◌}
+use Rattle.std.proofs.Common.{◌≡◌, ◌<◌, Bool, true, false, List, [], ◌∷◌, ◌++◌, refl, sym, ap, ◌∙◌, subst, if◌then◌else◌}
 use Rattle.std.proofs.lemmas.Bool.{ltb-true}
 use Rattle.std.specs.Prelude.{nat_lt}
 use Rattle.iso_agent.proofs.Pinned.{pinned-unfresh}
@@ -32,7 +32,7 @@ use Rattle.iso_locks.specs.declared.locking.Answer.{Answer as LockAnswer}
 use Rattle.iso_reads.proofs.Beside.{limit-comes}
 use Rattle.iso_reads.specs.Answers.{Shows, answer_at, answer_by, comes_at_limit, is_beside, limited, pin_of, seen}
 use Rattle.iso_reads.specs.declared.outcomes.Looked.{Looked}
-use Rattle.iso_reads.specs.declared.outcomes.Looked.TheVariants.{EndOfTable, Pinned, Queued, Shown, TimedOut}
+use Rattle.iso_reads.specs.declared.outcomes.Looked.TheVariants.{EndOfTable, Pinned, Shown}
 use Rattle.iso_state.specs.Stands.{Content}
 use Rattle.iso_types.specs.declared.desk.Phase.{Phase}
 use Rattle.iso_types.specs.declared.desk.Phase.TheVariants.{Running}

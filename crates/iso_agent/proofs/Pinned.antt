@@ -1,7 +1,6 @@
 -- A look that is pinned: its connection has no hold on the row, before it and after.
-use Rattle.std.proofs.Common.{◌≡◌, ◌≤◌, ℕ, Bool, true, false, not, ◌&&◌, ◌||◌, List, [], ◌∷◌, refl, sym, ap, ◌∙◌, subst, Option, Some, None, arith, option_map, count_by, filter, if◌then◌else◌}
+use Rattle.std.proofs.Common.{◌≡◌, Bool, true, false, not, ◌&&◌, ◌||◌, List, [], refl, ap, ◌∙◌, Option, Some, None, arith, option_map, if◌then◌else◌}
 use Rattle.std.specs.Option.{option_map_or}
-use Rattle.std.specs.Prelude.{is_some}
 use Rattle.iso_history.proofs.facts.Excludes.{excludes, has_lock, kept-writes}
 use Rattle.iso_history.proofs.locks.Finds.{count-filter, counts-none, none-counts}
 use Rattle.iso_history.proofs.locks.Holds.{count-settled}

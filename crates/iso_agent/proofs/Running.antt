@@ -1,15 +1,14 @@
 -- A connection that runs goes on running while others make entries.
-use Rattle.std.proofs.Common.{◌≡◌, ℕ, Bool, true, false, List, [], ◌∷◌, ◌++◌, refl, sym, ap, ◌∙◌, subst, Option, Some, None}
-use Rattle.std.specs.Option.{option_map_or}
+use Rattle.std.proofs.Common.{◌≡◌, Bool, true, false, List, [], ◌∷◌, ◌++◌, refl, sym, ap, ◌∙◌, subst}
 use Rattle.iso_conduct.specs.Conduct.{AreOthers, is_by}
 use Rattle.iso_history.proofs.limits.Courses.{is_phase-is, least-idle-is, phase-same, running}
-use Rattle.iso_history.proofs.limits.Others.{others-agent, others-close, others-dispatch, others-expire, others-victim, same-at}
+use Rattle.iso_history.proofs.limits.Others.{others-agent, others-close, others-dispatch, others-expire, others-victim}
 use Rattle.iso_history.proofs.limits.Victims.{has_victim}
 use Rattle.iso_history.proofs.limits.Waiting.{conn_eq-is, conn_eq-sym}
 use Rattle.iso_history.specs.After.{after, start, world, world_from}
-use Rattle.iso_history.specs.Legal.{Allowed, By, ByDispatcher, Ground, GroundFrom}
+use Rattle.iso_history.specs.Legal.{By, ByDispatcher, Ground, GroundFrom}
 use Rattle.iso_history.specs.Makers.{by_dispatcher}
-use Rattle.iso_history.specs.Phases.{phase, phase_number, victim}
+use Rattle.iso_history.specs.Phases.{phase}
 use Rattle.iso_history.specs.World.{World}
 use Rattle.iso_history.specs.declared.entry.Act.{Act}
 use Rattle.iso_history.specs.declared.entry.Act.TheVariants.{Close, Dispatch, Expire, Victim}

@@ -1,12 +1,12 @@
 -- What each answer makes of the scan of an open statement.
-use Rattle.std.proofs.Common.{◌≡◌, ◌≤◌, ◌<◌, ◌+◌, ℕ, ℤ, Bool, true, false, ◌&&◌, List, [], ◌∷◌, ◌++◌, refl, sym, ap, ◌∙◌, subst, Option, Some, None, arith, length, length-append, if◌then◌else◌}
+use Rattle.std.proofs.Common.{◌≡◌, ◌≤◌, ◌<◌, ◌+◌, ℕ, Bool, true, false, ◌&&◌, List, [], ◌∷◌, ◌++◌, refl, sym, subst, Option, Some, None, arith, length-append, if◌then◌else◌}
 use Rattle.std.proofs.lemmas.Bool.{le-leb, leb-true}
 use Rattle.std.specs.List.{list_all}
 use Rattle.std.specs.Prelude.{Ok, Err, Result, nat_le}
-use Rattle.iso_agent.specs.Scans.{IsPlainAt, ScansWithin, is_scanned, is_within}
+use Rattle.iso_agent.specs.Scans.{IsPlainAt, is_scanned, is_within}
 use Rattle.iso_conduct.specs.Courses.{haul_size}
-use Rattle.iso_conduct.specs.Parts.{Part, failing_list, rolling_list}
-use Rattle.iso_conduct.specs.Parts.Part.{Answer, Asks, Backs, Changes, Claims, Collapses, EntryLook, Frees, IndexScan, Leaves, Marks, NewRow, Refuses, Replies, RowDelete, RowUpdate, Sets, Settles, TableScan, Undos}
+use Rattle.iso_conduct.specs.Parts.{Part}
+use Rattle.iso_conduct.specs.Parts.Part.{Asks, Changes, EntryLook, Frees, IndexScan, Leaves, Refuses, Replies, RowUpdate, TableScan}
 use Rattle.iso_conduct.specs.Points.{Haul, Point, backed_up, behind, change_part, change_parts, ending, fault_code, found_rows, freeing, frees, hauled, is_kept, kept_with, look_rid, looked, looked_by, opened_out, past_look, projected_by, queued_up, standing_at, told_point}
 use Rattle.iso_conduct.specs.Points.Haul.{Found, Given, Number}
 use Rattle.iso_conduct.specs.declared.moves.Told.{Told}

@@ -1,17 +1,16 @@
 -- The scan of an open statement along a history over a head without an index.
-use Rattle.std.proofs.Common.{◌≡◌, ◌≤◌, ◌<◌, ◌+◌, ℕ, Bool, true, false, ◌||◌, List, [], ◌∷◌, ◌++◌, refl, sym, ap, ◌∙◌, subst, Option, Some, None, arith, length, if◌then◌else◌}
+use Rattle.std.proofs.Common.{◌≡◌, ℕ, Bool, true, false, ◌||◌, List, [], ◌∷◌, refl, sym, subst, Option, Some, None, arith, length, if◌then◌else◌}
 use Rattle.std.specs.List.{list_all, list_any}
 use Rattle.std.specs.Option.{option_map}
-use Rattle.std.specs.Prelude.{IsTrue, not}
-use Rattle.iso_agent.proofs.LookMade.{IsLookAt, heard-shows, is_look, made-look}
+use Rattle.iso_agent.proofs.LookMade.{heard-shows, is_look, made-look}
 use Rattle.iso_agent.proofs.ScanSteps.{IsLater, is_shown, plain-later, shown-plain, told-plain}
 use Rattle.iso_agent.proofs.ScansBegin.{start-plain, statement-sound}
-use Rattle.iso_agent.specs.Scans.{IsPlainAt, ScansWithin, is_within}
+use Rattle.iso_agent.specs.Scans.{IsPlainAt, is_within}
 use Rattle.iso_conduct.proofs.FrontsAlong.{may-made}
-use Rattle.iso_conduct.specs.Conduct.{Conduct, ConductFrom, Does, IsNext, MayIn, Rolls, ends, has_left, heard, is_by, made, moved_by, moved_in, opened, point, point_after, point_from, quiet, quiet_back, quiet_claim, quieted, ready, statement_at, stops_for_memory}
+use Rattle.iso_conduct.specs.Conduct.{Conduct, ConductFrom, Does, MayIn, ends, has_left, heard, is_by, made, moved_by, moved_in, opened, point, point_after, point_from, quiet, quiet_back, quiet_claim, quieted, ready, statement_at, stops_for_memory}
 use Rattle.iso_conduct.specs.Outcomes.{act_of}
 use Rattle.iso_conduct.specs.Parts.{Part}
-use Rattle.iso_conduct.specs.Parts.Part.{EntryLook, IndexScan, TableScan}
+use Rattle.iso_conduct.specs.Parts.Part.{EntryLook, TableScan}
 use Rattle.iso_conduct.specs.Points.{Haul, Point, due, due_by, row_due, rows_due, start_point, told_all, told_point}
 use Rattle.iso_conduct.specs.declared.moves.Move.{Move}
 use Rattle.iso_conduct.specs.declared.moves.Told.{Told}
@@ -19,18 +18,16 @@ use Rattle.iso_history.proofs.phantoms.Slots.{slots-grow}
 use Rattle.iso_history.specs.After.{after, start, world, world_from}
 use Rattle.iso_history.specs.Looks.{shown}
 use Rattle.iso_history.specs.Marks.{mark_of}
-use Rattle.iso_history.specs.Outcomes.{unless_full}
 use Rattle.iso_history.specs.Phases.{phase}
 use Rattle.iso_history.specs.Units.{unit_of_maker}
 use Rattle.iso_history.specs.Stops.{is_full}
-use Rattle.iso_history.specs.Versions.{change_of, slots}
+use Rattle.iso_history.specs.Versions.{change_of}
 use Rattle.iso_history.specs.World.{World}
 use Rattle.iso_history.specs.declared.entry.Act.{Act}
 use Rattle.iso_history.specs.declared.entry.Act.TheVariants.{Stopped}
 use Rattle.iso_history.specs.declared.entry.Cause.TheVariants.{History}
 use Rattle.iso_history.specs.declared.entry.Entry.{Entry}
-use Rattle.iso_history.specs.declared.entry.Who.{Who}
-use Rattle.iso_history.specs.declared.entry.Who.TheVariants.{Agent, Dispatcher}
+use Rattle.iso_history.specs.declared.entry.Who.TheVariants.{Agent}
 use Rattle.iso_script.specs.Sound.{is_sound_line}
 use Rattle.iso_script.specs.declared.script.Line.{Line}
 use Rattle.iso_sql.specs.declared.statement.Statement.{Statement}

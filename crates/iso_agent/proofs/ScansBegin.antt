@@ -1,14 +1,13 @@
 -- A sound statement over a head without an index, before its first entry.
-use Rattle.std.proofs.Common.{◌≡◌, ◌≤◌, ℕ, Bool, true, false, ◌&&◌, List, [], ◌∷◌, ◌++◌, refl, sym, ap, ◌∙◌, subst, Option, Some, None, arith, length, filter, find, if◌then◌else◌}
+use Rattle.std.proofs.Common.{◌≡◌, ℕ, Bool, true, false, List, [], ◌∷◌, refl, sym, ap, ◌∙◌, subst, Option, Some, None, arith, length, filter, find, if◌then◌else◌}
 use Rattle.std.proofs.lemmas.Bool.{and_parts, eq-eqb, le-leb}
 use Rattle.std.specs.List.{list_all}
-use Rattle.std.specs.Option.{option_map_or}
-use Rattle.std.specs.Prelude.{◌==◌, nat_le, pos}
+use Rattle.std.specs.Prelude.{◌==◌, nat_le}
 use Rattle.iso_agent.specs.Scans.{IsPlainAt, is_scanned, is_within}
 use Rattle.iso_conduct.specs.Conduct.{is_line_of, statement_at, statement_in, statement_on}
 use Rattle.iso_conduct.specs.Courses.{haul_size}
 use Rattle.iso_conduct.specs.Parts.{Part, change_list, change_want, level_in, listed, new_row, replies, scan, select_list, select_want}
-use Rattle.iso_conduct.specs.Parts.Part.{Answer, Asks, NewRow, Refuses, TableScan}
+use Rattle.iso_conduct.specs.Parts.Part.{Answer, NewRow, Refuses, TableScan}
 use Rattle.iso_conduct.specs.Points.{first_haul, start_point}
 use Rattle.iso_history.proofs.whole.PressedWrites.{indexes-declared}
 use Rattle.iso_history.specs.Versions.{slots}
@@ -27,7 +26,7 @@ use Rattle.iso_sql.specs.declared.statement.Items2.TheVariants.{All, Columns, Co
 use Rattle.iso_sql.specs.declared.statement.Statement.{Statement}
 use Rattle.iso_sql.specs.declared.statement.Statement.TheVariants as st
 use Rattle.iso_types.specs.Head.{indexes_of}
-use Rattle.iso_types.specs.Ids.{conn_eq, table_eq}
+use Rattle.iso_types.specs.Ids.{table_eq}
 use Rattle.iso_types.specs.declared.head.Head.{Head}
 use Rattle.iso_types.specs.declared.head.Isolation.{Isolation}
 use Rattle.iso_types.specs.declared.value.Conn.{Conn}
@@ -40,7 +39,7 @@ use Rattle.iso_types.specs.declared.value.Value.{Value}
 some-is : {A : Type 0} (a b : A) → Some a ≡ Some b → a ≡ b
 some-is a b h = cc
 
-found-all : {A : Type 0} (p q : A → Bool) (xs : List A) (x : A) → list_all q xs ≡ true → find p xs ≡ Some x → q x ≡ true
+pub found-all : {A : Type 0} (p q : A → Bool) (xs : List A) (x : A) → list_all q xs ≡ true → find p xs ≡ Some x → q x ≡ true
 found-all p q [] x all e = absurd (cc)
 found-all p q (y ∷ ys) x all e = go (p y) (found-all p q ys x (and_parts (q y) (list_all q ys) all).1) e
   where
@@ -73,7 +72,7 @@ statement-sound head lines c (Some n) s sound e =
 
 -- ---- its parts
 
-none-of : {A : Type 0} (xs : List A) → length xs ≡ 0 → xs ≡ []
+pub none-of : {A : Type 0} (xs : List A) → length xs ≡ 0 → xs ≡ []
 none-of [] e = refl
 none-of (x ∷ xs) e = absurd (omega (arith, e))
 

@@ -1,5 +1,5 @@
 -- The row that a look of an open statement shows may be told to its task.
-use Rattle.std.proofs.Common.{◌≡◌, ◌≤◌, ◌<◌, ◌+◌, ℕ, Bool, true, false, ◌&&◌, List, [], ◌∷◌, refl, sym, ap, ◌∙◌, subst, Option, Some, None, arith, if◌then◌else◌}
+use Rattle.std.proofs.Common.{◌≡◌, ◌≤◌, ◌<◌, ◌+◌, ℕ, Bool, true, false, ◌&&◌, List, [], ◌∷◌, refl, sym, ap, subst, Option, Some, arith, if◌then◌else◌}
 use Rattle.std.proofs.lemmas.Bool.{and_parts, eqb-true, leb-true}
 use Rattle.std.specs.List.{list_all}
 use Rattle.std.specs.Prelude.{◌==◌, nat_le}
@@ -8,13 +8,13 @@ use Rattle.iso_conduct.proofs.Fitting.{reads-fit}
 use Rattle.iso_conduct.specs.Courses.{MayTell, fits_table, haul_size, key_within, reads_within, scan_slot, suits}
 use Rattle.iso_conduct.specs.Parts.{Part}
 use Rattle.iso_conduct.specs.Parts.Part.{TableScan}
-use Rattle.iso_conduct.specs.Points.{Point, updated_columns}
+use Rattle.iso_conduct.specs.Points.{Point}
 use Rattle.iso_conduct.specs.declared.moves.Told.{Told}
 use Rattle.iso_history.proofs.log.Fitted.{present-fits}
 use Rattle.iso_history.specs.Fitted.{AllFit, Fits, RowsFit}
 use Rattle.iso_history.specs.Looks.{shown}
 use Rattle.iso_history.specs.Units.{unit_of}
-use Rattle.iso_history.specs.Versions.{committed, is_pending_beside, present, slots, versions, view, view_of}
+use Rattle.iso_history.specs.Versions.{committed, is_pending_beside, present, slots, versions, view_of}
 use Rattle.iso_history.specs.World.{Version, World}
 use Rattle.iso_history.specs.declared.entry.Want.{Want}
 use Rattle.iso_history.specs.declared.entry.Want.TheVariants.{Dirty}
@@ -71,10 +71,6 @@ module _ (head : Head) (w : World) (p : Point) (g : IsPlainAt head w p) (t : Tab
       let b = and_parts (is_scanned p.statement t) (nat_le r (slots w t) && nat_le r w.made) a.0 in
       let d = and_parts (nat_le r (slots w t)) (nat_le r w.made) b.1 in
       (b.0, leb-true r (slots w t) d.0, leb-true r w.made d.1)
-
-  -- the scan stands at a slot, or behind the last
-  pub scan-place : r ≤ slots w t
-  scan-place = place.1
 
   row-suits : (row : List Value) → row_fits head t row ≡ true → suits p row ≡ true
   row-suits row fits =

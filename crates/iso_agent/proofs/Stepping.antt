@@ -1,22 +1,18 @@
 -- What is kept of each step's answer is what its statement hears of the entry.
-use Rattle.std.proofs.Common.{◌≡◌, Bool, true, false, ◌||◌, List, [], ◌∷◌, ◌++◌, refl, sym, ap, ◌∙◌, subst, Option, Some, None, if◌then◌else◌}
-use Rattle.std.specs.Prelude.{IsTrue, nat_lt}
-use Rattle.iso_agent.proofs.Pinned.{pinned-unfresh}
+use Rattle.std.proofs.Common.{◌≡◌, Bool, true, false, List, [], ◌∷◌, ◌++◌, refl, sym, ap, ◌∙◌, subst, Option, Some, None, if◌then◌else◌}
 use Rattle.iso_agent.specs.Fits.{Tells, told_list}
-use Rattle.iso_agent.specs.Steps.{HasPin, HasStepped, IsWanting, cause_of, escalating, kept_of_lock, kept_of_look, stepped_of_write}
+use Rattle.iso_agent.specs.Steps.{HasPin, HasStepped, cause_of, kept_of_lock}
 use Rattle.iso_agent.specs.declared.agent.Kept.{Kept}
-use Rattle.iso_agent.specs.declared.stepped.Stepped.{Stepped}
-use Rattle.iso_agent.specs.declared.stepped.Stepped.TheVariants.{Goes, Over, Stops}
+use Rattle.iso_agent.specs.declared.stepped.Stepped.TheVariants.{Goes, Stops}
 use Rattle.iso_conduct.specs.Conduct.{ends, heard}
 use Rattle.iso_conduct.specs.declared.moves.Told.{Told}
 use Rattle.iso_history.proofs.Snoc.{world-snoc}
 use Rattle.iso_history.proofs.limits.Courses.{running}
 use Rattle.iso_history.proofs.limits.Waiting.{conn_eq-refl, waiting-queued}
 use Rattle.iso_history.specs.After.{after, world}
-use Rattle.iso_history.specs.Legal.{Runs}
 use Rattle.iso_history.specs.Makers.{by_agent}
 use Rattle.iso_history.specs.Outcomes.{asked_by, at_limit, escalated_by, limited_by}
-use Rattle.iso_history.specs.Phases.{is_phase, phase, waits_grantable}
+use Rattle.iso_history.specs.Phases.{is_phase, phase}
 use Rattle.iso_history.specs.Requests.{Outcome, escalation, request}
 use Rattle.iso_history.specs.Requests.Outcome.{Gives, Limit}
 use Rattle.iso_history.specs.Stops.{is_full, may_stop}
@@ -54,16 +50,9 @@ pub stops-by : (head : Head) (es new : List Entry) (c : Conn) (a : Act) (fault :
 stops-by head es new c a StepFault.Memory same may full = (same, may)
 stops-by head es new c a StepFault.HistoryFull same may full = (same, full refl)
 
--- who runs may stop for want of memory; so may who waits for a lock that it could have
+-- who runs may stop for want of memory
 pub running-stops : (head : Head) (w : World) (c : Conn) → phase w c ≡ Running → may_stop head w c Memory ≡ true
 running-stops head w c runs = rw runs refl
-
-pub grantable-stops : (head : Head) (w : World) (c : Conn) → waits_grantable w c ≡ true → may_stop head w c Memory ≡ true
-grantable-stops head w c waits = go (is_phase (phase w c) Running) (waits_grantable w c) waits
-  where
-    go : (a b : Bool) → b ≡ true → (a || b) ≡ true
-    go true b e = refl
-    go false b e = e
 
 module _ (head : Head) (w : World) (c : Conn) (runs : phase w c ≡ Running) where
   -- the connection waits after its entry

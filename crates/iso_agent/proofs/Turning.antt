@@ -1,7 +1,6 @@
 -- What the step that is due leaves of its agent, or why it stops.
-use Rattle.std.proofs.Common.{◌≡◌, ◌≤◌, ℕ, Bool, true, false, ◌&&◌, not, List, [], ◌∷◌, ◌++◌, refl, sym, ap, ◌∙◌, subst, Some, None, arith, ◌+◌, length, if◌then◌else◌}
+use Rattle.std.proofs.Common.{◌≡◌, ◌≤◌, Bool, true, false, not, List, [], ◌∷◌, ◌++◌, refl, sym, ap, ◌∙◌, subst, Some, None, arith, ◌+◌, length, if◌then◌else◌}
 use Rattle.std.specs.List.{list_all}
-use Rattle.std.specs.Prelude.{IsTrue}
 use Rattle.iso_agent.proofs.Leaves.{goes-leaves, goes-may, over-leaves, stop-may, world-now}
 use Rattle.iso_agent.proofs.Running.{past-from}
 use Rattle.iso_agent.proofs.Wants.{can-heard, wants-runs}
@@ -18,7 +17,6 @@ use Rattle.iso_conduct.specs.Answers.{AreAnswers}
 use Rattle.iso_conduct.specs.Conduct.{Conduct, MayIn, heard, made, point, ready}
 use Rattle.iso_conduct.specs.Points.{Point}
 use Rattle.iso_conduct.specs.Standing.{MayGoOn}
-use Rattle.iso_history.proofs.limits.Made.{made-is}
 use Rattle.iso_history.proofs.limits.Within.{limit-holds}
 use Rattle.iso_history.proofs.whole.Journal.{first-fitted, log_sound-world}
 use Rattle.iso_history.proofs.whole.Sound.{sound-world}
@@ -29,7 +27,6 @@ use Rattle.iso_history.specs.Stops.{is_full, needs}
 use Rattle.iso_history.specs.Makers.{by_agent}
 use Rattle.iso_history.specs.Phases.{phase}
 use Rattle.iso_history.specs.World.{World}
-use Rattle.iso_history.specs.declared.entry.Act.{Act}
 use Rattle.iso_history.specs.declared.entry.Act.TheVariants.{Stopped}
 use Rattle.iso_history.specs.declared.entry.Cause.{Cause}
 use Rattle.iso_history.specs.declared.entry.Cause.TheVariants.{History, Memory}

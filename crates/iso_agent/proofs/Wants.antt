@@ -1,7 +1,7 @@
 -- Where memory may be wanting for what an entry tells, its connection runs; and what it tells may be told.
-use Rattle.std.proofs.Common.{◌≡◌, ◌≤◌, ℕ, Bool, true, false, ◌||◌, ◌&&◌, List, [], ◌∷◌, refl, sym, ap, ◌∙◌, subst}
+use Rattle.std.proofs.Common.{◌≡◌, ◌≤◌, Bool, true, false, ◌||◌, ◌&&◌, List, [], ◌∷◌, refl, sym, subst}
 use Rattle.std.specs.List.{list_any}
-use Rattle.iso_agent.proofs.LookMade.{IsLookAt, heard-shows, is_look, made-look}
+use Rattle.iso_agent.proofs.LookMade.{heard-shows, is_look, made-look}
 use Rattle.iso_agent.proofs.ScanSteps.{is_shown}
 use Rattle.iso_agent.proofs.ScansAlong.{look-left}
 use Rattle.iso_agent.proofs.ShownRows.{may-tell-shown}
@@ -20,7 +20,7 @@ use Rattle.iso_history.specs.Courses.{CourseAt}
 use Rattle.iso_history.specs.Fitted.{RowsFit}
 use Rattle.iso_history.specs.Legal.{ByAgent, is_fresh_on}
 use Rattle.iso_history.specs.Makers.{by_agent}
-use Rattle.iso_history.specs.Phases.{is_phase, phase}
+use Rattle.iso_history.specs.Phases.{phase}
 use Rattle.iso_history.specs.World.{World}
 use Rattle.iso_history.specs.declared.entry.Act.{Act}
 use Rattle.iso_history.specs.declared.entry.Got.{Got}

@@ -2,9 +2,7 @@
 use Rattle.std.proofs.Common.{◌≡◌, ◌+◌, ℕ, ℤ, Bool, true, false, List, [], ◌∷◌, ◌++◌, refl, sym, ap, ◌∙◌, subst, Option, Some, None, append-nil, length, if◌then◌else◌}
 use Rattle.std.specs.Prelude.{nat_le}
 use Rattle.iso_agent.proofs.Stepping.{goes, limit-ends, limit-kept, lock-pins, waits-now}
-use Rattle.iso_agent.specs.Fits.{Tells}
-use Rattle.iso_agent.specs.Steps.{HasPin, HasStepped, keeps, kept_of_lock, stepped_of_write}
-use Rattle.iso_agent.specs.declared.stepped.Stepped.{Stepped}
+use Rattle.iso_agent.specs.Steps.{HasStepped, keeps, kept_of_lock, stepped_of_write}
 use Rattle.iso_agent.specs.declared.stepped.Stepped.TheVariants.{Goes}
 use Rattle.iso_conduct.specs.Conduct.{ends, heard}
 use Rattle.iso_conduct.specs.declared.moves.Told.{Told}

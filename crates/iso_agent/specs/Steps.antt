@@ -1,11 +1,11 @@
 -- What comes of the step that is due, and what is kept of its entry.
-use Rattle.std.specs.Prelude.{◌≡◌, Bool, true, false, List, [], ◌∷◌, ◌++◌, IsTrue, Option, Some, None, if◌then◌else◌}
+use Rattle.std.specs.Prelude.{◌≡◌, Bool, true, false, List, [], ◌∷◌, ◌++◌, IsTrue, Some, None, if◌then◌else◌}
 use Rattle.iso_agent.specs.Fits.{Tells}
 use Rattle.iso_agent.specs.declared.agent.Kept.{Kept}
-use Rattle.iso_agent.specs.declared.agent.Kept.TheVariants.{Answer, Nothing, Rebuild, Stop}
+use Rattle.iso_agent.specs.declared.agent.Kept.TheVariants.{Answer, Rebuild}
 use Rattle.iso_agent.specs.declared.stepped.Stepped.{Stepped}
 use Rattle.iso_agent.specs.declared.stepped.Stepped.TheVariants.{Goes, Over, Stops}
-use Rattle.iso_conduct.specs.Conduct.{Conduct, ends, heard}
+use Rattle.iso_conduct.specs.Conduct.{ends, heard}
 use Rattle.iso_conduct.specs.Outcomes.{act_of}
 use Rattle.iso_conduct.specs.Points.{Point, due, row_due, rows_due}
 use Rattle.iso_conduct.specs.declared.moves.Told.{Told}

@@ -3,7 +3,7 @@ use Rattle.std.specs.Prelude.{◌≡◌, Bool, true, false, List, [], ◌∷◌,
 use Rattle.iso_agent.specs.Fits.{CanSettle, Fits}
 use Rattle.iso_agent.specs.declared.agent.Kept.{Kept}
 use Rattle.iso_agent.specs.declared.agent.Turned.{Turned}
-use Rattle.iso_agent.specs.declared.agent.Turned.TheVariants.{Ended, Ran, Rests}
+use Rattle.iso_agent.specs.declared.agent.Turned.TheVariants.{Ended, Ran}
 use Rattle.iso_conduct.specs.Conduct.{Conduct}
 use Rattle.iso_conduct.specs.Points.{Point}
 use Rattle.iso_history.specs.Makers.{by_agent}

@@ -110,7 +110,7 @@ impl Agent {
     }
 
     /// Makes the entry of the step that is due, or stops in its place.
-    fn go_on(&mut self, alloc: Global, script: &Script, parts: &mut Parts, mut task: Task)
+    fn go_on(&mut self, alloc: Global, script: &Script, parts: &mut Parts, task: Task)
         requires stands { StandsFor parts.old }
         requires open { (world_of parts.old).pace.finished ≡ false }
         requires plain { length parts.old.head.indexes ≡ 0 } // keys come next
@@ -118,8 +118,8 @@ impl Agent {
         requires sound { IsSound script.now }
         requires conn { self.old.conn.0 < length parts.old.head.conns }
         requires goes { GoesOn (world_of parts.old) self.old.conn }
-        requires ready { ready parts.old.head script.now.lines (world_of parts.old) self.old.conn (point parts.old.head script.now.lines parts.old.history.items self.old.conn) ≡ Some task.entry }
-        requires may { MayGoOn parts.old.head (world_of parts.old) self.old.conn task.entry }
+        requires ready { ready parts.old.head script.now.lines (world_of parts.old) self.old.conn (point parts.old.head script.now.lines parts.old.history.items self.old.conn) ≡ Some task }
+        requires may { MayGoOn parts.old.head (world_of parts.old) self.old.conn task }
         requires conduct { Conduct parts.old.head script.now.lines parts.old.history.items self.old.conn }
         ensures stands { StandsFor parts.new }
         ensures head { parts.new.head ≡ parts.old.head }
@@ -127,6 +127,7 @@ impl Agent {
         ensures turned { HasTurned parts.old.history.items parts.new.history.items self.old.conn turns.Ran }
         ensures leaves { Leaves parts.old.head script.now.lines parts.new.history.items self.old.conn self.new.task self.new.kept }
     {
+        let mut task = task;
         match step_due(alloc, parts, self.conn, &mut task) {
             Stepped::Goes(kept) => {
                 self.task = Some(task);
@@ -137,6 +138,30 @@ impl Agent {
                 self.kept = Kept::Nothing;
             }
             Stepped::Stops(cause) => self.stop(script, parts, cause),
+        }
+    }
+
+    /// Makes the next entry of a statement of which nothing is left to be told.
+    fn go(&mut self, alloc: Global, script: &Script, parts: &mut Parts)
+        requires stands { StandsFor parts.old }
+        requires open { (world_of parts.old).pace.finished ≡ false }
+        requires plain { length parts.old.head.indexes ≡ 0 } // keys come next
+        requires head { parts.old.head ≡ script.now.head }
+        requires sound { IsSound script.now }
+        requires conn { self.old.conn.0 < length parts.old.head.conns }
+        requires goes { GoesOn (world_of parts.old) self.old.conn }
+        requires reached { self.old.task ≡ point parts.old.head script.now.lines parts.old.history.items self.old.conn }
+        requires conduct { Conduct parts.old.head script.now.lines parts.old.history.items self.old.conn }
+        ensures stands { StandsFor parts.new }
+        ensures head { parts.new.head ≡ parts.old.head }
+        ensures conn { self.new.conn ≡ self.old.conn }
+        ensures turned { HasTurned parts.old.history.items parts.new.history.items self.old.conn turns.Ran }
+        ensures leaves { Leaves parts.old.head script.now.lines parts.new.history.items self.old.conn self.new.task self.new.kept }
+    {
+        let task = self.task.take();
+        match ready_task(alloc, script, parts, self.conn, task) {
+            Ok(task) => self.go_on(alloc, script, parts, task),
+            Err(_) => self.stop(script, parts, Cause::Memory),
         }
     }
 
@@ -156,13 +181,11 @@ impl Agent {
         ensures turned { HasTurned parts.old.history.items parts.new.history.items self.old.conn turns.Ran }
         ensures leaves { Leaves parts.old.head script.now.lines parts.new.history.items self.old.conn self.new.task self.new.kept }
     {
-        if let Kept::Stop = self.kept {
-            return self.stop(script, parts, Cause::Memory);
-        }
-        let task = self.task.take();
-        match ready_task(alloc, script, parts, self.conn, task) {
-            Ok(task) => self.go_on(alloc, script, parts, task),
-            Err(_) => self.stop(script, parts, Cause::Memory),
+        match self.kept {
+            Kept::Nothing => self.go(alloc, script, parts),
+            Kept::Answer { .. } => unreachable!(),
+            Kept::Rebuild(_) => unreachable!(),
+            Kept::Stop => self.stop(script, parts, Cause::Memory),
         }
     }
 

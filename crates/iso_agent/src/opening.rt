@@ -8,7 +8,7 @@ ghost use Rattle.iso_standing.specs.Going.{GoesOn};
 ghost use Rattle.iso_state.specs.Stands.{StandsFor, desk_at, world_of};
 ghost use Rattle.iso_conduct.specs.Points.{start_point};
 ghost use Rattle.iso_conduct.specs.Starts.{setting_of};
-ghost use Rattle.std.specs.Option.{option_map};
+ghost use Rattle.std.specs.Option.{option_copied, option_map};
 ghost use Rattle.std.specs.List.{list_all};
 ghost use Rattle.iso_script.specs.Sound.{is_sound_line};
 
@@ -41,8 +41,14 @@ fn begin(alloc: Global, line: &Line, head: &Head, conn: Conn, desk: &Desk) -> Re
     }
 }
 
-/// The task of the statement on the line with this number, where it is the connection's; else as for want of memory. It looks
-/// at each line before it.
+/// The line with this number. It looks at each line before it.
+fn line_at(lines: &[Line], number: u32) -> Option<&Line>
+    ensures { option_copied result ≡ find (λ l. l.number == number) lines.now }
+{
+    lines.iter().find(|line| line.number == number)
+}
+
+/// The task of the statement on the line with the desk's number, where it is the connection's; else as for want of memory.
 fn begin_at(
     alloc: Global,
     lines: &[Line],
@@ -54,12 +60,10 @@ fn begin_at(
     requires sound { list_all (is_sound_line head.now) lines.now ≡ true }
     ensures { IfOk result (λ t. option_map (start_point head.now conn (setting_of desk.now) desk.now.start) (statement_on conn (find (λ l. l.number == desk.now.line) lines.now)) ≡ Some t) }
 {
-    for line in lines {
-        if line.number == desk.line {
-            return begin(alloc, line, head, conn, desk);
-        }
+    match line_at(lines, desk.line) {
+        Some(line) => begin(alloc, line, head, conn, desk),
+        None => Err(Memory),
     }
-    Err(Memory)
 }
 
 /// The task of the statement that a running connection begins. `Memory`: there was none for a copy of the statement, or the
