@@ -76,8 +76,8 @@ statement_24 = Select (table 1) Count c.Always None
 abbrev cond_24 : Condition
 cond_24 = c.Always
 
-truth_24 : (row : List Value) → truth row cond_24 ≡ True
-truth_24 row = always-truth row
+truth_24 : (shown : List Value) → truth shown cond_24 ≡ True
+truth_24 shown = always-truth shown
 
 plan_24 : plan_of head (table 1) cond_24 ≡ Path.Table
 unfolding mode_number mode_eq goes_with compatible joined at_least covers escalated value_cmp value_eq value_lt name_eq is_hold_of opposes stands_before world_from world is_table_mode is_row_mode table_mode
@@ -89,8 +89,8 @@ statement_25 = Statement.Delete (table 0) (c.Compare 0 Eq (Int (pos 12))) None
 abbrev cond_25 : Condition
 cond_25 = (c.Compare 0 Eq (Int (pos 12)))
 
-truth_25 : (row : List Value) → truth row cond_25 ≡ compared Eq (value_at row 0) (Int (pos 12))
-truth_25 row = compare-truth row 0 Eq (Int (pos 12))
+truth_25 : (shown : List Value) → truth shown cond_25 ≡ compared Eq (value_at shown 0) (Int (pos 12))
+truth_25 shown = compare-truth shown 0 Eq (Int (pos 12))
 
 plan_25 : plan_of head (table 0) cond_25 ≡ (Path.Index (index 0) (range (Some (bound (Int (pos 12)) true)) (Some (bound (Int (pos 12)) true))))
 unfolding mode_number mode_eq goes_with compatible joined at_least covers escalated value_cmp value_eq value_lt name_eq is_hold_of opposes stands_before world_from world is_table_mode is_row_mode table_mode
@@ -102,8 +102,8 @@ statement_26 = Select (table 0) Count c.Always None
 abbrev cond_26 : Condition
 cond_26 = c.Always
 
-truth_26 : (row : List Value) → truth row cond_26 ≡ True
-truth_26 row = always-truth row
+truth_26 : (shown : List Value) → truth shown cond_26 ≡ True
+truth_26 shown = always-truth shown
 
 plan_26 : plan_of head (table 0) cond_26 ≡ Path.Table
 unfolding mode_number mode_eq goes_with compatible joined at_least covers escalated value_cmp value_eq value_lt name_eq is_hold_of opposes stands_before world_from world is_table_mode is_row_mode table_mode

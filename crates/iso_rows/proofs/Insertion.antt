@@ -79,8 +79,8 @@ statement_6 = Select (table 0) (Columns (0 ∷ [])) c.Always (Some Ur)
 abbrev cond_6 : Condition
 cond_6 = c.Always
 
-truth_6 : (row : List Value) → truth row cond_6 ≡ True
-truth_6 row = always-truth row
+truth_6 : (shown : List Value) → truth shown cond_6 ≡ True
+truth_6 shown = always-truth shown
 
 plan_6 : plan_of head (table 0) cond_6 ≡ Path.Table
 unfolding mode_number mode_eq goes_with compatible joined at_least covers escalated value_cmp value_eq value_lt name_eq is_hold_of opposes stands_before world_from world is_table_mode is_row_mode table_mode

@@ -76,8 +76,8 @@ statement_9 = Select (table 0) (Columns (0 ∷ [])) (c.Between 0 (Int (pos 10)) 
 abbrev cond_9 : Condition
 cond_9 = (c.Between 0 (Int (pos 10)) (Int (pos 20)))
 
-truth_9 : (row : List Value) → truth row cond_9 ≡ between (value_at row 0) (Int (pos 10)) (Int (pos 20))
-truth_9 row = between-truth row 0 (Int (pos 10)) (Int (pos 20))
+truth_9 : (shown : List Value) → truth shown cond_9 ≡ between (value_at shown 0) (Int (pos 10)) (Int (pos 20))
+truth_9 shown = between-truth shown 0 (Int (pos 10)) (Int (pos 20))
 
 plan_9 : plan_of head (table 0) cond_9 ≡ (Path.Index (index 0) (range (Some (bound (Int (pos 10)) true)) (Some (bound (Int (pos 20)) true))))
 unfolding mode_number mode_eq goes_with compatible joined at_least covers escalated value_cmp value_eq value_lt name_eq is_hold_of opposes stands_before world_from world is_table_mode is_row_mode table_mode

@@ -79,8 +79,8 @@ statement_9 = Select (table 0) (Columns (0 ∷ [])) (c.Not (c.Compare 1 Eq (Int 
 abbrev cond_9 : Condition
 cond_9 = (c.Not (c.Compare 1 Eq (Int (pos 7))))
 
-truth_9 : (row : List Value) → truth row cond_9 ≡ negated (compared Eq (value_at row 1) (Int (pos 7)))
-truth_9 row = not-by row (c.Compare 1 Eq (Int (pos 7))) (compared Eq (value_at row 1) (Int (pos 7))) (compare-truth row 1 Eq (Int (pos 7)))
+truth_9 : (shown : List Value) → truth shown cond_9 ≡ negated (compared Eq (value_at shown 1) (Int (pos 7)))
+truth_9 shown = not-by shown (c.Compare 1 Eq (Int (pos 7))) (compared Eq (value_at shown 1) (Int (pos 7))) (compare-truth shown 1 Eq (Int (pos 7)))
 
 plan_9 : plan_of head (table 0) cond_9 ≡ Path.Table
 unfolding mode_number mode_eq goes_with compatible joined at_least covers escalated value_cmp value_eq value_lt name_eq is_hold_of opposes stands_before world_from world is_table_mode is_row_mode table_mode
@@ -92,8 +92,8 @@ statement_10 = Select (table 0) All c.Always None
 abbrev cond_10 : Condition
 cond_10 = c.Always
 
-truth_10 : (row : List Value) → truth row cond_10 ≡ True
-truth_10 row = always-truth row
+truth_10 : (shown : List Value) → truth shown cond_10 ≡ True
+truth_10 shown = always-truth shown
 
 plan_10 : plan_of head (table 0) cond_10 ≡ Path.Table
 unfolding mode_number mode_eq goes_with compatible joined at_least covers escalated value_cmp value_eq value_lt name_eq is_hold_of opposes stands_before world_from world is_table_mode is_row_mode table_mode
@@ -105,8 +105,8 @@ statement_11 = Statement.Update (table 0) (sets_of (assign 1 (Expr.Literal (Int 
 abbrev cond_11 : Condition
 cond_11 = c.Always
 
-truth_11 : (row : List Value) → truth row cond_11 ≡ True
-truth_11 row = always-truth row
+truth_11 : (shown : List Value) → truth shown cond_11 ≡ True
+truth_11 shown = always-truth shown
 
 plan_11 : plan_of head (table 0) cond_11 ≡ Path.Table
 unfolding mode_number mode_eq goes_with compatible joined at_least covers escalated value_cmp value_eq value_lt name_eq is_hold_of opposes stands_before world_from world is_table_mode is_row_mode table_mode
@@ -118,8 +118,8 @@ statement_12 = Statement.Delete (table 0) c.Always None
 abbrev cond_12 : Condition
 cond_12 = c.Always
 
-truth_12 : (row : List Value) → truth row cond_12 ≡ True
-truth_12 row = always-truth row
+truth_12 : (shown : List Value) → truth shown cond_12 ≡ True
+truth_12 shown = always-truth shown
 
 plan_12 : plan_of head (table 0) cond_12 ≡ Path.Table
 unfolding mode_number mode_eq goes_with compatible joined at_least covers escalated value_cmp value_eq value_lt name_eq is_hold_of opposes stands_before world_from world is_table_mode is_row_mode table_mode

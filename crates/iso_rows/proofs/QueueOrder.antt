@@ -76,8 +76,8 @@ statement_8 = Select (table 0) (Columns (1 ∷ [])) c.Always None
 abbrev cond_8 : Condition
 cond_8 = c.Always
 
-truth_8 : (row : List Value) → truth row cond_8 ≡ True
-truth_8 row = always-truth row
+truth_8 : (shown : List Value) → truth shown cond_8 ≡ True
+truth_8 shown = always-truth shown
 
 plan_8 : plan_of head (table 0) cond_8 ≡ Path.Table
 unfolding mode_number mode_eq goes_with compatible joined at_least covers escalated value_cmp value_eq value_lt name_eq is_hold_of opposes stands_before world_from world is_table_mode is_row_mode table_mode
@@ -89,8 +89,8 @@ statement_9 = Statement.Update (table 0) (sets_of (assign 1 (Expr.Literal (Int (
 abbrev cond_9 : Condition
 cond_9 = c.Always
 
-truth_9 : (row : List Value) → truth row cond_9 ≡ True
-truth_9 row = always-truth row
+truth_9 : (shown : List Value) → truth shown cond_9 ≡ True
+truth_9 shown = always-truth shown
 
 plan_9 : plan_of head (table 0) cond_9 ≡ Path.Table
 unfolding mode_number mode_eq goes_with compatible joined at_least covers escalated value_cmp value_eq value_lt name_eq is_hold_of opposes stands_before world_from world is_table_mode is_row_mode table_mode
@@ -102,8 +102,8 @@ statement_10 = Select (table 0) (Columns (1 ∷ [])) c.Always None
 abbrev cond_10 : Condition
 cond_10 = c.Always
 
-truth_10 : (row : List Value) → truth row cond_10 ≡ True
-truth_10 row = always-truth row
+truth_10 : (shown : List Value) → truth shown cond_10 ≡ True
+truth_10 shown = always-truth shown
 
 plan_10 : plan_of head (table 0) cond_10 ≡ Path.Table
 unfolding mode_number mode_eq goes_with compatible joined at_least covers escalated value_cmp value_eq value_lt name_eq is_hold_of opposes stands_before world_from world is_table_mode is_row_mode table_mode

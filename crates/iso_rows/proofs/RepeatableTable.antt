@@ -76,8 +76,8 @@ statement_9 = Select (table 0) (Columns (1 ∷ [])) (c.Compare 1 Gt (Int (pos 15
 abbrev cond_9 : Condition
 cond_9 = (c.Compare 1 Gt (Int (pos 150)))
 
-truth_9 : (row : List Value) → truth row cond_9 ≡ compared Gt (value_at row 1) (Int (pos 150))
-truth_9 row = compare-truth row 1 Gt (Int (pos 150))
+truth_9 : (shown : List Value) → truth shown cond_9 ≡ compared Gt (value_at shown 1) (Int (pos 150))
+truth_9 shown = compare-truth shown 1 Gt (Int (pos 150))
 
 plan_9 : plan_of head (table 0) cond_9 ≡ Path.Table
 unfolding mode_number mode_eq goes_with compatible joined at_least covers escalated value_cmp value_eq value_lt name_eq is_hold_of opposes stands_before world_from world is_table_mode is_row_mode table_mode
@@ -89,8 +89,8 @@ statement_10 = Statement.Update (table 0) (sets_of (assign 1 (Expr.Sum 1 (pos 1)
 abbrev cond_10 : Condition
 cond_10 = (c.Compare 0 Eq (Int (pos 2)))
 
-truth_10 : (row : List Value) → truth row cond_10 ≡ compared Eq (value_at row 0) (Int (pos 2))
-truth_10 row = compare-truth row 0 Eq (Int (pos 2))
+truth_10 : (shown : List Value) → truth shown cond_10 ≡ compared Eq (value_at shown 0) (Int (pos 2))
+truth_10 shown = compare-truth shown 0 Eq (Int (pos 2))
 
 plan_10 : plan_of head (table 0) cond_10 ≡ Path.Table
 unfolding mode_number mode_eq goes_with compatible joined at_least covers escalated value_cmp value_eq value_lt name_eq is_hold_of opposes stands_before world_from world is_table_mode is_row_mode table_mode
@@ -102,8 +102,8 @@ statement_11 = Statement.Update (table 0) (sets_of (assign 1 (Expr.Literal (Int 
 abbrev cond_11 : Condition
 cond_11 = (c.IsNull 1)
 
-truth_11 : (row : List Value) → truth row cond_11 ≡ known (is_null (value_at row 1))
-truth_11 row = null-truth row 1
+truth_11 : (shown : List Value) → truth shown cond_11 ≡ known (is_null (value_at shown 1))
+truth_11 shown = null-truth shown 1
 
 plan_11 : plan_of head (table 0) cond_11 ≡ Path.Table
 unfolding mode_number mode_eq goes_with compatible joined at_least covers escalated value_cmp value_eq value_lt name_eq is_hold_of opposes stands_before world_from world is_table_mode is_row_mode table_mode
@@ -115,8 +115,8 @@ statement_12 = Select (table 0) Count c.Always (Some Ur)
 abbrev cond_12 : Condition
 cond_12 = c.Always
 
-truth_12 : (row : List Value) → truth row cond_12 ≡ True
-truth_12 row = always-truth row
+truth_12 : (shown : List Value) → truth shown cond_12 ≡ True
+truth_12 shown = always-truth shown
 
 plan_12 : plan_of head (table 0) cond_12 ≡ Path.Table
 unfolding mode_number mode_eq goes_with compatible joined at_least covers escalated value_cmp value_eq value_lt name_eq is_hold_of opposes stands_before world_from world is_table_mode is_row_mode table_mode
@@ -128,8 +128,8 @@ statement_13 = Statement.Delete (table 0) (c.Compare 0 Eq (Int (pos 1))) None
 abbrev cond_13 : Condition
 cond_13 = (c.Compare 0 Eq (Int (pos 1)))
 
-truth_13 : (row : List Value) → truth row cond_13 ≡ compared Eq (value_at row 0) (Int (pos 1))
-truth_13 row = compare-truth row 0 Eq (Int (pos 1))
+truth_13 : (shown : List Value) → truth shown cond_13 ≡ compared Eq (value_at shown 0) (Int (pos 1))
+truth_13 shown = compare-truth shown 0 Eq (Int (pos 1))
 
 plan_13 : plan_of head (table 0) cond_13 ≡ Path.Table
 unfolding mode_number mode_eq goes_with compatible joined at_least covers escalated value_cmp value_eq value_lt name_eq is_hold_of opposes stands_before world_from world is_table_mode is_row_mode table_mode
@@ -147,8 +147,8 @@ statement_16 = Select (table 0) All c.Always None
 abbrev cond_16 : Condition
 cond_16 = c.Always
 
-truth_16 : (row : List Value) → truth row cond_16 ≡ True
-truth_16 row = always-truth row
+truth_16 : (shown : List Value) → truth shown cond_16 ≡ True
+truth_16 shown = always-truth shown
 
 plan_16 : plan_of head (table 0) cond_16 ≡ Path.Table
 unfolding mode_number mode_eq goes_with compatible joined at_least covers escalated value_cmp value_eq value_lt name_eq is_hold_of opposes stands_before world_from world is_table_mode is_row_mode table_mode
@@ -160,8 +160,8 @@ statement_17 = Statement.Delete (table 0) (c.Compare 1 Eq (Int (pos 7))) None
 abbrev cond_17 : Condition
 cond_17 = (c.Compare 1 Eq (Int (pos 7)))
 
-truth_17 : (row : List Value) → truth row cond_17 ≡ compared Eq (value_at row 1) (Int (pos 7))
-truth_17 row = compare-truth row 1 Eq (Int (pos 7))
+truth_17 : (shown : List Value) → truth shown cond_17 ≡ compared Eq (value_at shown 1) (Int (pos 7))
+truth_17 shown = compare-truth shown 1 Eq (Int (pos 7))
 
 plan_17 : plan_of head (table 0) cond_17 ≡ Path.Table
 unfolding mode_number mode_eq goes_with compatible joined at_least covers escalated value_cmp value_eq value_lt name_eq is_hold_of opposes stands_before world_from world is_table_mode is_row_mode table_mode
@@ -176,8 +176,8 @@ statement_19 = Select (table 0) Count (c.Compare 1 Eq (Int (pos 7))) None
 abbrev cond_19 : Condition
 cond_19 = (c.Compare 1 Eq (Int (pos 7)))
 
-truth_19 : (row : List Value) → truth row cond_19 ≡ compared Eq (value_at row 1) (Int (pos 7))
-truth_19 row = compare-truth row 1 Eq (Int (pos 7))
+truth_19 : (shown : List Value) → truth shown cond_19 ≡ compared Eq (value_at shown 1) (Int (pos 7))
+truth_19 shown = compare-truth shown 1 Eq (Int (pos 7))
 
 plan_19 : plan_of head (table 0) cond_19 ≡ Path.Table
 unfolding mode_number mode_eq goes_with compatible joined at_least covers escalated value_cmp value_eq value_lt name_eq is_hold_of opposes stands_before world_from world is_table_mode is_row_mode table_mode

@@ -82,8 +82,8 @@ statement_10 = Statement.Delete (table 0) (c.Compare 0 Eq (Int (pos 3))) None
 abbrev cond_10 : Condition
 cond_10 = (c.Compare 0 Eq (Int (pos 3)))
 
-truth_10 : (row : List Value) → truth row cond_10 ≡ compared Eq (value_at row 0) (Int (pos 3))
-truth_10 row = compare-truth row 0 Eq (Int (pos 3))
+truth_10 : (shown : List Value) → truth shown cond_10 ≡ compared Eq (value_at shown 0) (Int (pos 3))
+truth_10 shown = compare-truth shown 0 Eq (Int (pos 3))
 
 plan_10 : plan_of head (table 0) cond_10 ≡ Path.Table
 unfolding mode_number mode_eq goes_with compatible joined at_least covers escalated value_cmp value_eq value_lt name_eq is_hold_of opposes stands_before world_from world is_table_mode is_row_mode table_mode
@@ -98,8 +98,8 @@ statement_12 = Statement.Update (table 0) (sets_of (assign 1 (Expr.Literal (Int 
 abbrev cond_12 : Condition
 cond_12 = (c.Compare 0 Eq (Int (pos 3)))
 
-truth_12 : (row : List Value) → truth row cond_12 ≡ compared Eq (value_at row 0) (Int (pos 3))
-truth_12 row = compare-truth row 0 Eq (Int (pos 3))
+truth_12 : (shown : List Value) → truth shown cond_12 ≡ compared Eq (value_at shown 0) (Int (pos 3))
+truth_12 shown = compare-truth shown 0 Eq (Int (pos 3))
 
 plan_12 : plan_of head (table 0) cond_12 ≡ Path.Table
 unfolding mode_number mode_eq goes_with compatible joined at_least covers escalated value_cmp value_eq value_lt name_eq is_hold_of opposes stands_before world_from world is_table_mode is_row_mode table_mode
@@ -111,8 +111,8 @@ statement_13 = Select (table 0) (Columns (0 ∷ [])) c.Always None
 abbrev cond_13 : Condition
 cond_13 = c.Always
 
-truth_13 : (row : List Value) → truth row cond_13 ≡ True
-truth_13 row = always-truth row
+truth_13 : (shown : List Value) → truth shown cond_13 ≡ True
+truth_13 shown = always-truth shown
 
 plan_13 : plan_of head (table 0) cond_13 ≡ Path.Table
 unfolding mode_number mode_eq goes_with compatible joined at_least covers escalated value_cmp value_eq value_lt name_eq is_hold_of opposes stands_before world_from world is_table_mode is_row_mode table_mode
@@ -124,8 +124,8 @@ statement_14 = Select (table 0) (Columns (1 ∷ [])) (c.Compare 0 Eq (Int (pos 3
 abbrev cond_14 : Condition
 cond_14 = (c.Compare 0 Eq (Int (pos 3)))
 
-truth_14 : (row : List Value) → truth row cond_14 ≡ compared Eq (value_at row 0) (Int (pos 3))
-truth_14 row = compare-truth row 0 Eq (Int (pos 3))
+truth_14 : (shown : List Value) → truth shown cond_14 ≡ compared Eq (value_at shown 0) (Int (pos 3))
+truth_14 shown = compare-truth shown 0 Eq (Int (pos 3))
 
 plan_14 : plan_of head (table 0) cond_14 ≡ Path.Table
 unfolding mode_number mode_eq goes_with compatible joined at_least covers escalated value_cmp value_eq value_lt name_eq is_hold_of opposes stands_before world_from world is_table_mode is_row_mode table_mode

@@ -76,8 +76,8 @@ statement_9 = Statement.Update (table 0) (sets_of (assign 1 (Expr.Literal (Int (
 abbrev cond_9 : Condition
 cond_9 = (c.Compare 0 Eq (Int (pos 1)))
 
-truth_9 : (row : List Value) → truth row cond_9 ≡ compared Eq (value_at row 0) (Int (pos 1))
-truth_9 row = compare-truth row 0 Eq (Int (pos 1))
+truth_9 : (shown : List Value) → truth shown cond_9 ≡ compared Eq (value_at shown 0) (Int (pos 1))
+truth_9 shown = compare-truth shown 0 Eq (Int (pos 1))
 
 plan_9 : plan_of head (table 0) cond_9 ≡ (Path.Index (index 0) (range (Some (bound (Int (pos 1)) true)) (Some (bound (Int (pos 1)) true))))
 unfolding mode_number mode_eq goes_with compatible joined at_least covers escalated value_cmp value_eq value_lt name_eq is_hold_of opposes stands_before world_from world is_table_mode is_row_mode table_mode
@@ -92,8 +92,8 @@ statement_11 = Statement.Update (table 0) (sets_of (assign 1 (Expr.Literal (Int 
 abbrev cond_11 : Condition
 cond_11 = (c.Compare 0 Eq (Int (pos 1)))
 
-truth_11 : (row : List Value) → truth row cond_11 ≡ compared Eq (value_at row 0) (Int (pos 1))
-truth_11 row = compare-truth row 0 Eq (Int (pos 1))
+truth_11 : (shown : List Value) → truth shown cond_11 ≡ compared Eq (value_at shown 0) (Int (pos 1))
+truth_11 shown = compare-truth shown 0 Eq (Int (pos 1))
 
 plan_11 : plan_of head (table 0) cond_11 ≡ (Path.Index (index 0) (range (Some (bound (Int (pos 1)) true)) (Some (bound (Int (pos 1)) true))))
 unfolding mode_number mode_eq goes_with compatible joined at_least covers escalated value_cmp value_eq value_lt name_eq is_hold_of opposes stands_before world_from world is_table_mode is_row_mode table_mode
@@ -108,8 +108,8 @@ statement_14 = Statement.Update (table 0) (sets_of (assign 1 (Expr.Literal (Int 
 abbrev cond_14 : Condition
 cond_14 = (c.Compare 0 Eq (Int (pos 1)))
 
-truth_14 : (row : List Value) → truth row cond_14 ≡ compared Eq (value_at row 0) (Int (pos 1))
-truth_14 row = compare-truth row 0 Eq (Int (pos 1))
+truth_14 : (shown : List Value) → truth shown cond_14 ≡ compared Eq (value_at shown 0) (Int (pos 1))
+truth_14 shown = compare-truth shown 0 Eq (Int (pos 1))
 
 plan_14 : plan_of head (table 0) cond_14 ≡ (Path.Index (index 0) (range (Some (bound (Int (pos 1)) true)) (Some (bound (Int (pos 1)) true))))
 unfolding mode_number mode_eq goes_with compatible joined at_least covers escalated value_cmp value_eq value_lt name_eq is_hold_of opposes stands_before world_from world is_table_mode is_row_mode table_mode
