@@ -46,18 +46,20 @@ pair-key p (q ∷ qs) h = go (pair-key p qs) (has-cases q p qs h)
     go ih (inl e) = subst (λ (x : Value × Rid). list_any (λ y. value_eq y.0 x.0) (q ∷ qs) ≡ true) (sym e) (rw (value-same q.0) refl)
     go ih (inr h) = or-second (value_eq q.0 p.0) (list_any (λ x. value_eq x.0 p.0) qs) (ih h)
 
-module _ (head : Head) (w : World) (c : Conn) (i : IndexId) (t : TableId) (on : table_of_index head i ≡ Some t) where
-  found-pair : (range : Range) (at : Option (Value × Rid)) (p : Value × Rid) → found w i range at ≡ Some p → has_pair (entries_of w i) p ≡ true
-  found-pair range None p e = (find-has (λ q. meets_low range.low q.0) (entries_of w i) p e).0
-  found-pair range (Some at) p e = (find-has (pair_lt at) (entries_of w i) p e).0
+-- what a step finds is an entry of its index
+pub found-pair : (w : World) (i : IndexId) (range : Range) (at : Option (Value × Rid)) (p : Value × Rid) → found w i range at ≡ Some p
+    → has_pair (entries_of w i) p ≡ true
+found-pair w i range None p e = (find-has (λ q. meets_low range.low q.0) (entries_of w i) p e).0
+found-pair w i range (Some at) p e = (find-has (pair_lt at) (entries_of w i) p e).0
 
+module _ (head : Head) (w : World) (c : Conn) (i : IndexId) (t : TableId) (on : table_of_index head i ≡ Some t) where
   -- the key or the end that a step locks is there
   next-there : (range : Range) (at : Option (Value × Rid)) → is_there head w (next_name w i range at) ≡ true
   next-there range at = go (found w i range at) refl
     where
       go : (o : Option (Value × Rid)) → found w i range at ≡ o → is_there head w (key_name i o) ≡ true
       go None e = index-there head i t on
-      go (Some p) e = pair-key p (entries_of w i) (found-pair range at p e)
+      go (Some p) e = pair-key p (entries_of w i) (found-pair w i range at p e)
 
   -- it may be asked for in S where the table is held in IS
   key-may : (o : Option (Value × Rid)) → is_there head w (key_name i o) ≡ true → Held w c t Is → may_ask head w c (key_name i o) S ≡ true
