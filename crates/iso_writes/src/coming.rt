@@ -3,6 +3,7 @@ ghost use Rattle.std.specs.Prelude.{◌≡◌, true};
 ghost use Rattle.iso_writes.specs.Answers.{comes_at_limit, limited as limited_by};
 
 use iso_locks::Answer;
+use iso_modes::Mode;
 use iso_types::{Name, TableId};
 
 /// What comes of a write. `Blocked`: another connection's lock on that name is in its way, and it waits; `Escalates`: the
@@ -17,14 +18,17 @@ pub enum Written {
     Full,
 }
 
-/// What an insertion comes to before it is made: it can be done, or its table has all its slots, its need is at a lock limit,
-/// or it is past the log.
+/// What an insertion or an update comes to before it is made: it can be done, its table has all its slots, its need is at a
+/// lock limit, it is past the log, another row has its key in a unique index, or another connection's lock on that name is in
+/// its way, for which the name is asked for in that mode.
 #[derive(Clone, Copy, PartialEq, Eq)]
 pub enum Coming {
     Done,
     Full,
     AtLimit,
     PastLog,
+    Taken,
+    Blocked(Name, Mode),
 }
 
 /// The answer to a write at the lock limit.

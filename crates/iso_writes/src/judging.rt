@@ -1,7 +1,7 @@
 //! What a write comes to before anything is written.
 ghost use Rattle.std.specs.Prelude.{◌≡◌, ◌<◌, length, true, nat_le};
 ghost use Rattle.iso_history.specs.Versions.{next_rid, slots};
-ghost use Rattle.iso_history.specs.Writes.{deletes, inserts, row_need as need_of_row, updates};
+ghost use Rattle.iso_history.specs.Writes.{deletes, inserts, may_change, row_need as need_of_row, updates};
 ghost use Rattle.iso_types.specs.Head.{row_fits};
 ghost use Rattle.iso_state.specs.Stands.{StandsFor, world_of};
 ghost use Rattle.iso_writes.specs.Answers.{coming_as, past_or_done};
@@ -52,21 +52,22 @@ fn row_need(parts: &Parts, conn: Conn, table: TableId) -> u32
     }
 }
 
-/// What an insertion of the row comes to.
+/// What an insertion of the row into the table's next slot comes to.
 pub fn judge_insert(parts: &Parts, conn: Conn, table: TableId, row: &Row) -> Coming
     requires stands { StandsFor parts.now }
     requires conn { conn.0 < length parts.now.head.conns }
     requires row { row_fits parts.now.head table row.now ≡ true }
-    requires plain { length parts.now.head.indexes ≡ 0 } // keys come next
     ensures { coming_as result ≡ inserts parts.now.head (world_of parts.now) conn table row.now }
 {
-    if is_table_full(parts, table) {
-        Coming::Full
-    } else if is_limited(parts, conn, row_need(parts, conn, table)) {
-        Coming::AtLimit
-    } else if is_log_full(parts) {
-        Coming::PastLog
-    } else {
-        Coming::Done
-    }
+    unreachable!()
+}
+
+/// What an update of a slot that the connection may change comes to.
+pub fn judge_update(parts: &Parts, conn: Conn, table: TableId, rid: Rid, row: &Row) -> Coming
+    requires stands { StandsFor parts.now }
+    requires conn { conn.0 < length parts.now.head.conns }
+    requires may { may_change parts.now.head (world_of parts.now) conn table rid ≡ true }
+    ensures { coming_as result ≡ updates parts.now.head (world_of parts.now) conn table rid row.now }
+{
+    unreachable!()
 }

@@ -4,6 +4,7 @@
 mod changing;
 mod coming;
 mod judging;
+mod keys;
 mod steps;
 mod writing;
 
