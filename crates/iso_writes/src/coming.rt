@@ -1,6 +1,7 @@
 //! What comes of a write: what its judging finds, and what its step answers.
 ghost use Rattle.std.specs.Prelude.{◌≡◌, true};
-ghost use Rattle.iso_writes.specs.Answers.{comes_at_limit, limited as limited_by};
+ghost use Rattle.iso_writes.specs.Rivals.{is_done};
+ghost use Rattle.iso_writes.specs.Answers.{coming_as, comes_at_limit, limited as limited_by};
 
 use iso_locks::Answer;
 use iso_modes::Mode;
@@ -29,6 +30,15 @@ pub enum Coming {
     PastLog,
     Taken,
     Blocked(Name, Mode),
+}
+
+impl Coming {
+    /// Whether nothing is in the way.
+    pub fn is_done(&self) -> bool
+        ensures { result ≡ is_done (coming_as self.now) }
+    {
+        matches!(self, Coming::Done)
+    }
 }
 
 /// The answer to a write at the lock limit.

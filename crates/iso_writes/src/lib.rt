@@ -5,6 +5,8 @@ mod changing;
 mod coming;
 mod judging;
 mod keys;
+mod rivals;
+mod slots;
 mod steps;
 mod writing;
 
