@@ -4,6 +4,7 @@
 mod changing;
 mod coming;
 mod judging;
+mod indexes;
 mod keys;
 mod rivals;
 mod slots;
