@@ -1,9 +1,11 @@
 -- The indexes of a head one after the other: what comes at one of them, and then at the others.
-use Rattle.std.proofs.Common.{◌≡◌, ◌≤◌, ◌+◌, ℕ, zero, suc, Bool, true, false, not, List, [], ◌∷◌, length, map, refl, ap, sym, ◌∙◌, arith, subst, Option, if◌then◌else◌}
+use Rattle.std.proofs.Common.{◌≡◌, ◌≤◌, ◌<◌, ◌+◌, ◌-◌, ℕ, zero, suc, Bool, true, false, not, List, [], ◌∷◌, length, map, refl, ap, sym, ◌∙◌, arith, subst, Option, if◌then◌else◌}
 use Rattle.std.specs.Prelude.{count_by, filter}
+use Rattle.iso_history.proofs.locks.Finds.{count-here, count-past, filter-here, filter-past}
+use Rattle.iso_history.specs.Entries.{row_has}
 use Rattle.iso_history.specs.Holds.{is_inherited}
 use Rattle.iso_history.specs.World.{World}
-use Rattle.iso_history.specs.Writes.{Written, judged_index, judged_indexes, key_need, or_else}
+use Rattle.iso_history.specs.Writes.{Written, judged_index, judged_indexes, judged_key, key_need, or_else}
 use Rattle.iso_history.specs.Writes.Written.{AtLimit, Blocks, Done, IsFull, Refuses}
 use Rattle.iso_modes.specs.declared.Mode.TheVariants.{S}
 use Rattle.iso_queue.specs.Locks.{is_covered}
@@ -11,6 +13,7 @@ use Rattle.iso_types.specs.Head.{indexes_of, key_in}
 use Rattle.iso_types.specs.declared.head.Head.{Head}
 use Rattle.iso_types.specs.declared.value.Conn.{Conn}
 use Rattle.iso_types.specs.declared.value.IndexId.{IndexId}
+use Rattle.iso_types.specs.declared.value.Name.{Name}
 use Rattle.iso_types.specs.declared.value.Name.TheVariants.{Key}
 use Rattle.iso_types.specs.declared.value.Rid.{Rid}
 use Rattle.iso_types.specs.declared.value.TableId.{TableId}
@@ -28,6 +31,13 @@ or-done AtLimit = refl
 
 module _ (head : Head) (w : World) (c : Conn) (t : TableId) where
   module _ (r : Rid) (old : Option (List Value)) (row : List Value) where
+    -- a key that is new to the row
+    pub judged-new : (i : IndexId) (v : Value) (b : Bool) (x : Written) → v ≡ key_in head i row → b ≡ row_has head i v old → b ≡ false
+        → x ≡ judged_key head w c t r i v → x ≡ judged_index head w c t r old row i
+    judged-new i v b x is tested e judged =
+        let gone : row_has head i (key_in head i row) old ≡ false = ap (λ (z : Value). row_has head i z old) (sym is) ∙ sym tested ∙ e in
+        judged ∙ ap (λ (z : Value). judged_key head w c t r i z) is ∙ rw gone refl
+
     -- the table's index
     pub judged-here : (i : IndexId) → is_of head t i ≡ true → judged_index head w c t r old row i ≡ judged_indexes head w c t r old row (of_table head t (i ∷ []))
     judged-here i e = rw e (sym (or-done (judged_index head w c t r old row i)))
@@ -64,10 +74,10 @@ module _ (head : Head) (w : World) (c : Conn) (t : TableId) where
           ∙ ap (λ (z : IndexId). judged_indexes head w c t r old row (of_table head t (z ∷ numbered (at + 1) n))) named ∙ left (suc n) e
 
       -- the first that is in the way is what all come to
-      pub stopped : at ≤ length head.indexes → (at ≡ length head.indexes → ⊥) → b ≡ false → x ≡ judged_indexes head w c t r old row (indexes_of head t)
-      stopped le ne e =
+      pub stopped : at < length head.indexes → b ≡ false → x ≡ judged_indexes head w c t r old row (indexes_of head t)
+      stopped lt e =
           let n = length head.indexes - suc at in
-          stops-at x _ (sym tested ∙ e) ∙ split n (omega (arith, le, ne))
+          stops-at x _ (sym tested ∙ e) ∙ split n (omega (arith, lt))
 
       pub left-next : b ≡ true → IsLeft (at + 1)
       left-next e n f = sym (goes-on x _ (sym tested ∙ e)) ∙ split n (omega (arith, f))
@@ -76,9 +86,6 @@ module _ (head : Head) (w : World) (c : Conn) (t : TableId) where
     left-last at left e = left 0 (omega (arith, e))
 
   module _ (row : List Value) where
-    one : Bool → ℕ
-    one b = if b then 1 else 0
-
     -- the need at one index
     pub need-one : (i : IndexId) (a b : Bool) → a ≡ is_inherited head w c row i → b ≡ is_covered head w.holds c (Key i (key_in head i row)) S
         → (a ≡ true → b ≡ false → 1 ≡ needed head w c row (i ∷ [])) × (a ≡ false → 0 ≡ needed head w c row (i ∷ [])) × (b ≡ true → 0 ≡ needed head w c row (i ∷ []))
@@ -92,14 +99,42 @@ module _ (head : Head) (w : World) (c : Conn) (t : TableId) where
         covered-one true k y = rw (k, y) refl
         covered-one false k y = rw k refl
 
+    abbrev not_covered : Name → Bool
+    not_covered n = not (is_covered head w.holds c n S)
+
+    abbrev key_name_of : IndexId → Name
+    key_name_of i = Key i (key_in head i row)
+
+    count-none : count_by not_covered [] ≡ 0
+    count-none = refl
+
     need-more : (i : IndexId) (is : List IndexId) → needed head w c row (i ∷ is) ≡ needed head w c row (i ∷ []) + needed head w c row is
     need-more i is = go (is_inherited head w c row i) refl (is_covered head w.holds c (Key i (key_in head i row)) S) refl
       where
         go : (a : Bool) → is_inherited head w c row i ≡ a → (b : Bool) → is_covered head w.holds c (Key i (key_in head i row)) S ≡ b
             → needed head w c row (i ∷ is) ≡ needed head w c row (i ∷ []) + needed head w c row is
-        go true e true f = rw (e, f) (omega arith)
-        go true e false f = rw (e, f) (omega arith)
-        go false e b f = rw e (omega arith)
+        go true e true f =
+            let here = filter-here (is_inherited head w c row) i is e in
+            let alone = filter-here (is_inherited head w c row) i [] e in
+            let more = count-past not_covered (Key i (key_in head i row)) (map key_name_of (filter (is_inherited head w c row) is)) (ap not f) in
+            let none = count-past not_covered (Key i (key_in head i row)) [] (ap not f) in
+            let a = ap (λ (l : List IndexId). count_by not_covered (map key_name_of l)) here in
+            let b = ap (λ (l : List IndexId). count_by not_covered (map key_name_of l)) alone in
+            omega (arith, a, b, more, none, count-none)
+        go true e false f =
+            let here = filter-here (is_inherited head w c row) i is e in
+            let alone = filter-here (is_inherited head w c row) i [] e in
+            let more = count-here not_covered (Key i (key_in head i row)) (map key_name_of (filter (is_inherited head w c row) is)) (ap not f) in
+            let none = count-here not_covered (Key i (key_in head i row)) [] (ap not f) in
+            let a = ap (λ (l : List IndexId). count_by not_covered (map key_name_of l)) here in
+            let b = ap (λ (l : List IndexId). count_by not_covered (map key_name_of l)) alone in
+            omega (arith, a, b, more, none, count-none)
+        go false e b f =
+            let past = filter-past (is_inherited head w c row) i is e in
+            let alone = filter-past (is_inherited head w c row) i [] e in
+            let a = ap (λ (l : List IndexId). count_by not_covered (map key_name_of l)) past in
+            let b = ap (λ (l : List IndexId). count_by not_covered (map key_name_of l)) alone in
+            omega (arith, a, b, count-none)
 
     need-first : (i : IndexId) (is : List IndexId) → needed head w c row (of_table head t (i ∷ is))
         ≡ needed head w c row (of_table head t (i ∷ [])) + needed head w c row (of_table head t is)
