@@ -17,6 +17,7 @@ pub mod LocksAlong
 pub mod DueParts
 pub mod TableLocks
 pub mod Making
+pub mod KeptRows
 pub mod RowNeeds
 pub mod RowTold
 pub mod RowsSeen
