@@ -19,8 +19,10 @@ pub mod TableLocks
 pub mod Making
 pub mod KeptRows
 pub mod RowNeeds
+pub mod RowLooks
 pub mod RowTold
 pub mod RowsSeen
+pub mod RowsFirm
 pub mod RowsLooked
 pub mod GoingOn
 pub mod RowsLocked
