@@ -29,6 +29,7 @@ pub mod RowsLocked
 pub mod RowsBegin
 pub mod RowsMade
 pub mod RowsHeard
+pub mod RowsShown
 pub mod RowsAlong
 pub mod RowsHold
 pub mod RowsAt
