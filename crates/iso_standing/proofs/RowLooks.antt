@@ -51,18 +51,24 @@ module _ (head : Head) (see : Seen) (firm : Such) where
         → Of g (hauled kept (look_rid ps) row given) (past_look ps)
     hauled-rows g kept [] row given fresh a key n new = absurd (cc)
     hauled-rows g kept (TableScan t want m ∷ ps) row given fresh a key n new = (
-      (n.0.0, scanned-more head see t want (Below m) (Below (m + 1)) kept (rid_of m) row given
-          (λ ks sees k below. below-apart (rid_of m) ks below)
-          (λ ks below. such-behind (λ q. q.0 < m + 1) ks (rid_of m) row (below-more m ks below) (omega arith))
-          (λ ks e. new.0 ks row e refl) n.0.1),
+      (
+        n.0.0,
+        scanned-more head see t want (Below m) (Below (m + 1)) kept (rid_of m) row given
+            (λ ks sees k below. below-apart (rid_of m) ks below)
+            (λ ks below. such-behind (λ q. q.0 < m + 1) ks (rid_of m) row (below-more m ks below) (omega arith))
+            (λ ks e. new.0 ks row e refl) n.0.1,
+      ),
       follow-rows head s columns see firm g (hauled kept (rid_of m) row given) t ps n.0.0,
     )
     hauled-rows g kept (EntryLook k key r ∷ ps) row given fresh a same n new =
         let keys : value_at row k.column ≡ key = value_is (value_at row k.column) key same in (
-          (n.0.0, scanned-more head see k.table k.want (AllBefore k.column (key, r)) (Passed k.column (Some (key, r))) kept r row given
-              (λ ks sees all before. entry-apart head see once k.table k.column key r row keys sees ks all before)
-              (λ ks before. passed-behind k.column key r row ks keys before)
-              (λ ks e. new.0 ks row e refl) n.0.1),
+          (
+            n.0.0,
+            scanned-more head see k.table k.want (AllBefore k.column (key, r)) (Passed k.column (Some (key, r))) kept r row given
+                (λ ks sees all before. entry-apart head see once k.table k.column key r row keys sees ks all before)
+                (λ ks before. passed-behind k.column key r row ks keys before)
+                (λ ks e. new.0 ks row e refl) n.0.1,
+          ),
           follow-rows head s columns see firm g (hauled kept r row given) k.table ps n.0.0,
         )
     hauled-rows g kept (x ∷ ps) row given fresh a key n new = absurd (cc)
@@ -73,8 +79,11 @@ module _ (head : Head) (see : Seen) (firm : Such) where
     past-rows g kept (TableScan t want m ∷ ps) n =
         ((n.0.0, scanned-place head see t want (Below m) (Below (m + 1)) kept (below-more m) n.0.1), n.1)
     past-rows g kept (EntryLook k key r ∷ ps) n = (
-      (n.0.0, scanned-place head see k.table k.want (AllBefore k.column (key, r)) (Passed k.column (Some (key, r))) kept
-          (before-passed k.column (key, r)) n.0.1),
+      (
+        n.0.0,
+        scanned-place head see k.table k.want (AllBefore k.column (key, r)) (Passed k.column (Some (key, r))) kept
+            (before-passed k.column (key, r)) n.0.1,
+      ),
       n.1,
     )
     past-rows g kept (x ∷ ps) n = n

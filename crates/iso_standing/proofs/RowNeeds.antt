@@ -236,5 +236,5 @@ module _ (head : Head) (s : Statement) (columns : List Column) where
     change-rows see firm (WithRow g t x.0) kept s t x (change_parts s columns t ks ++ ps) (inr (refl, refl)) k.0 k.1 assigns
         (names-changes (Beside x.0) kept t ks ps k.2 e)
         (rows-more see firm g (WithRow g t x.0) (λ u q l. inl l) kept (change_parts s columns t ks ++ ps)
-            (changes-rows see firm g kept t ks ps assigns e k.3)),
+        (changes-rows see firm g kept t ks ps assigns e k.3)),
   )

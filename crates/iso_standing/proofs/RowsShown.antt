@@ -88,7 +88,7 @@ module _ (head : Head) (w : World) (c : Conn) (s : IsSound head w) (p : Point) w
   module _ (fit : RowsFit head w.tables) (t : TableId) (r : Rid) (want : Want) (place : Place) (scanned : Scanned head (Sees w c) t want place p.kept)
       (ask : (g : Written) → RowAsked g p.left)
       (front : (see : Seen) (firm : Such) (sh : Option (List Value)) → ShowsAt head see firm t r p.kept sh → AllSuch (firm t) (found_rows p.kept)
-          → Shows head see firm p.kept p.left sh) where
+      → Shows head see firm p.kept p.left sh) where
     abbrev looked_at : Act
     looked_at = Look t r want Got.Granted
 
