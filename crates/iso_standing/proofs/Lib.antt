@@ -16,6 +16,8 @@ pub mod Hearing
 pub mod LocksAlong
 pub mod DueParts
 pub mod TableLocks
+pub mod NextsAt
+pub mod Slotted
 pub mod Making
 pub mod KeptRows
 pub mod RowNeeds

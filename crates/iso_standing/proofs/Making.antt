@@ -12,10 +12,11 @@ use Rattle.iso_history.specs.Writes.{may_change, may_write}
 use Rattle.iso_history.specs.declared.entry.Entry.{Entry}
 use Rattle.iso_script.specs.Sound.{IsSound}
 use Rattle.iso_script.specs.declared.script.Script.{Script}
+use Rattle.iso_standing.proofs.NextsAt.{next-at}
 use Rattle.iso_standing.proofs.RowsAt.{Changes, change-at, row-there-at, update-fits-at}
 use Rattle.iso_standing.proofs.StepsRun.{asks_to_run, back-at, claim-at, collapse-at, free-at, runs-at}
 use Rattle.iso_standing.proofs.StepsUndo.{rollback-at, undo-at}
-use Rattle.iso_standing.proofs.TableLocks.{ask-at, delete-table-at, insert-at, look-at, no-end-at, no-key-at, no-next-at, refuse-at, table-ask-at, update-table-at}
+use Rattle.iso_standing.proofs.TableLocks.{ask-at, delete-table-at, insert-at, look-at, no-end-at, no-key-at, refuse-at, table-ask-at, update-table-at}
 use Rattle.iso_standing.specs.Going.{GoesOn}
 use Rattle.iso_types.specs.declared.value.Conn.{Conn}
 use Rattle.iso_types.specs.declared.value.Name.TheVariants.{End, Key, Row, Table}
@@ -43,7 +44,7 @@ module _ (script : Script) (es : List Entry) (c : Conn) (p : Point) (sound : IsS
   may-make (Move.Lock (End i) m) e = absurd (no-end-at script es c p sound g k is i m e)
   may-make Move.Claim e = claim-at script.head script.lines es c g k able p is e
   may-make (Move.Look t r want) e = let runs = run (ap asks_to_run e) in (runs, look-at script es c p sound g k is runs.0 t r want e)
-  may-make (Move.Next i range at guarded) e = absurd (no-next-at script es c p sound g k is plain i range at guarded e)
+  may-make (Move.Next i range at guarded) e = let runs = run (ap asks_to_run e) in (runs, next-at script es c p sound g k is runs.0 i range at guarded e)
   may-make (Move.Free t r) e = free-at script.head script.lines es c g k able p is t r e
   may-make (Move.Collapse t) e = collapse-at script.head script.lines es c g k able p is t e
   may-make (Move.Insert t) e =
