@@ -1,5 +1,5 @@
 -- The step that is due of a connection which can go on may be made.
-use Rattle.std.proofs.Common.{◌≡◌, inl, inr, true, List, [], refl, ap, Some}
+use Rattle.std.proofs.Common.{◌≡◌, inl, inr, true, List, refl, ap, Some}
 use Rattle.iso_conduct.specs.Conduct.{Conduct, point, ready}
 use Rattle.iso_conduct.specs.Points.{Point, due, row_due}
 use Rattle.iso_conduct.specs.Standing.{MayGoOn, MayMake}
@@ -23,7 +23,7 @@ use Rattle.iso_types.specs.declared.value.Name.TheVariants.{End, Key, Row, Table
 use Rattle.iso_types.specs.declared.value.Rid.{Rid}
 use Rattle.iso_types.specs.declared.value.TableId.{TableId}
 
-module _ (script : Script) (es : List Entry) (c : Conn) (p : Point) (sound : IsSound script) (plain : script.head.indexes ≡ []) (g : Ground script.head es)
+module _ (script : Script) (es : List Entry) (c : Conn) (p : Point) (sound : IsSound script) (g : Ground script.head es)
     (k : Conduct script.head script.lines es c) (able : GoesOn (world script.head es) c)
     (is : ready script.head script.lines (world script.head es) c (point script.head script.lines es c) ≡ Some p) where
   abbrev here : World

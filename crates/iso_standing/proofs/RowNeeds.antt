@@ -3,7 +3,6 @@ use Rattle.std.proofs.Common.{◌≡◌, ◌⊎◌, inl, inr, Bool, true, false,
 use Rattle.iso_conduct.specs.Parts.{Part}
 use Rattle.iso_conduct.specs.Parts.Part.{Answer, Asks, Backs, Changes, EntryLook, Frees, IndexScan, Leaves, NewRow, Refuses, Replies, RowDelete, RowUpdate, TableScan, Undos}
 use Rattle.iso_conduct.specs.Points.{Haul, change_part, change_parts, fault_code, found_rows}
-use Rattle.iso_conduct.specs.Points.Haul.{Found, Given, Number}
 use Rattle.iso_modes.specs.declared.Mode.TheVariants.{X}
 use Rattle.iso_predicate.specs.Assigned.{Fault, assigned}
 use Rattle.iso_sql.specs.declared.statement.Statement.{Statement}

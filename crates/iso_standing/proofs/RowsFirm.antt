@@ -9,7 +9,7 @@ use Rattle.iso_history.specs.Facts.{IsSound, keeps_mode}
 use Rattle.iso_history.specs.Guards.{ends_unit, is_end, is_free_at, is_freed}
 use Rattle.iso_history.specs.Legal.{Allowed}
 use Rattle.iso_history.specs.Makers.{by_agent}
-use Rattle.iso_history.specs.Versions.{present, versions}
+use Rattle.iso_history.specs.Versions.{present}
 use Rattle.iso_history.specs.World.{World}
 use Rattle.iso_history.specs.declared.entry.Act.{Act}
 use Rattle.iso_history.specs.declared.entry.Act.TheVariants.{Free}

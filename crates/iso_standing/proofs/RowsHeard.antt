@@ -1,5 +1,5 @@
 -- What is heard of the entry of a step is as the changes of a statement ask: the row of a lock is locked or awaited.
-use Rattle.std.proofs.Common.{◌≡◌, inl, inr, ℕ, Bool, true, false, List, ◌∷◌, refl, sym, ◌∙◌, subst, Some, None, Option, if◌then◌else◌}
+use Rattle.std.proofs.Common.{◌≡◌, inl, inr, Bool, true, false, List, ◌∷◌, refl, sym, ◌∙◌, subst, Some, None, Option, if◌then◌else◌}
 use Rattle.std.specs.Option.{option_map_or}
 use Rattle.iso_conduct.specs.Conduct.{heard}
 use Rattle.iso_conduct.specs.Parts.{Part}
