@@ -4,8 +4,9 @@ use Rattle.std.specs.Prelude.{count_by, filter}
 use Rattle.iso_history.proofs.locks.Finds.{count-here, count-past, filter-here, filter-past}
 use Rattle.iso_history.specs.Entries.{row_has}
 use Rattle.iso_history.specs.Holds.{is_inherited}
+use Rattle.iso_history.specs.Versions.{committed, is_changed_beside, present, versions, view}
 use Rattle.iso_history.specs.World.{World}
-use Rattle.iso_history.specs.Writes.{Written, judged_index, judged_indexes, judged_key, key_need, or_else}
+use Rattle.iso_history.specs.Writes.{Written, judged_index, judged_indexes, judged_key, judged_log, judged_need, key_need, or_else, updates}
 use Rattle.iso_history.specs.Writes.Written.{AtLimit, Blocks, Done, IsFull, Refuses}
 use Rattle.iso_modes.specs.declared.Mode.TheVariants.{S}
 use Rattle.iso_queue.specs.Locks.{is_covered}
@@ -169,3 +170,17 @@ module _ (head : Head) (w : World) (c : Conn) (t : TableId) where
     pub need-last : (count at : ℕ) → IsNeed count at → at ≡ length head.indexes → count ≡ key_need head w c t row
     need-last count at need e =
         let all : count + 0 ≡ key_need head w c t row = need 0 (omega (arith, e)) in omega (arith, all)
+
+-- who may change a row sees its present version: what comes of an update, told by that
+pub update-is : (head : Head) (w : World) (c : Conn) (t : TableId) (r : Rid) (old : Option (List Value)) (row : List Value) → old ≡ present (versions w t r)
+    → is_changed_beside w c t r ≡ false
+    → or_else (judged_indexes head w c t r old row (indexes_of head t)) (or_else (judged_need head w c (0 + key_need head w c t row)) (judged_log head w))
+    ≡ updates head w c t r row
+update-is head w c t r old row is alone =
+    let seen : old ≡ view w c t r = is ∙ own in
+    let plain : 0 + key_need head w c t row ≡ key_need head w c t row = omega arith in
+    ap (λ (o : Option (List Value)). or_else (judged_indexes head w c t r o row (indexes_of head t)) (or_else (judged_need head w c (0 + key_need head w c t row)) (judged_log head w))) seen
+    ∙ ap (λ (n : ℕ). or_else (judged_indexes head w c t r (view w c t r) row (indexes_of head t)) (or_else (judged_need head w c n) (judged_log head w))) plain
+  where
+    own : present (versions w t r) ≡ view w c t r
+    own = sym (ap (λ (b : Bool). if b then committed (versions w t r) else present (versions w t r)) alone)
