@@ -27,3 +27,5 @@ pub mod AlikeClaims
 pub mod Holding
 pub mod NewNames
 pub mod Weighed
+pub mod Bridge
+pub mod Awaited
