@@ -12,3 +12,5 @@ pub mod Same
 pub mod Worked
 pub mod Pruned
 pub mod Sums
+pub mod Walked
+pub mod Weighed

@@ -3,6 +3,7 @@
 
 mod desk;
 mod lines;
+mod reads;
 mod register;
 mod tasks;
 mod work;

@@ -1,4 +1,6 @@
-ghost use Rattle.std.specs.Prelude.{◌≡◌, ◌≤◌, length, [], IfSome, IfNone, IfOk, OnOk, OnErr, false, if◌then◌else◌, slice_set, Some, None, IsSome};
+ghost use Rattle.std.specs.Prelude.{◌≡◌, ◌≤◌, length, map, [], IfSome, IfNone, IfOk, OnOk, OnErr, false, if◌then◌else◌, slice_set, Some, None, IsSome};
+ghost use Rattle.std.specs.List.{IsDistinct};
+ghost use Rattle.std.specs.Map.{keys_of};
 ghost use Rattle.std.specs.Option.{option_copied};
 ghost use Rattle.slab.specs.Slab.{ContainsKey, get as slot, Updates};
 ghost use Rattle.indexmap.specs.IndexMap.{IsUnchanged};
@@ -158,7 +160,8 @@ fn sweep(index: &mut IndexMap<Name, usize>, queues: &mut Slab<Queue>, name: &Nam
 impl Lines {
     /// No name: nobody holds or awaits any. It takes no memory.
     pub fn new(alloc: Global) -> Lines
-        ensures { (n : Other) → line_of result n ≡ nobody }
+        ensures lines { (n : Other) → line_of result n ≡ nobody }
+        ensures empty { result.index ≡ [] }
     {
         Lines {
             index: IndexMap::new(alloc),
@@ -174,6 +177,21 @@ impl Lines {
     {
         let key = find(&self.index, name)?;
         self.queues.get(key)
+    }
+
+    /// No name stands in the index twice.
+    pub fn names_once(&self)
+        ensures { IsDistinct same (keys_of self.now.index) }
+    {
+        let _ = self.index.len();
+    }
+
+    /// The names that somebody holds or awaits, each once. `Memory`: want of memory.
+    pub fn names(&self, alloc: Global) -> Result<Vec<&Name>, Memory>
+        ensures { IfOk result (λ v. map (λ n. n.now) v.items ≡ keys_of self.now.index) }
+    {
+        let names: Vec<&Name> = self.index.keys().collect(alloc)?;
+        Ok(names)
     }
 
     /// Asks for the mode on the name, as `Queue::ask` does. `Memory`: want of memory, and nothing changed.

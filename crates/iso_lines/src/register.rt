@@ -1,16 +1,19 @@
-ghost use Rattle.std.specs.Prelude.{List, length, ◌≡◌, ◌<◌, ◌≤◌, ◌+◌, IfOk, IfNone, IfSome, OnOk, OnErr, false, is_some, if◌then◌else◌};
-ghost use Rattle.iso_queue.specs.Lines.{asked, is_granted, is_touched};
+ghost use Rattle.std.specs.Prelude.{List, [], true, map, length, ◌≡◌, ◌<◌, ◌≤◌, ◌+◌, IfOk, IfNone, IfSome, OnOk, OnErr, false, is_some, if◌then◌else◌};
+ghost use Rattle.iso_queue.specs.Lines.{asked, is_grantable, is_granted, is_touched, is_waiter};
 ghost use Rattle.iso_queue.specs.declared.types.Asked.{Asked as Outcome};
 ghost use Rattle.std.specs.List.{IsDistinct, list_any};
 ghost use Rattle.iso_types.specs.Ids.{name_eq};
 ghost use Rattle.iso_types.specs.declared.value.Conn.{Conn as Holder};
 ghost use Rattle.iso_types.specs.declared.value.Name.{Name as Other};
-ghost use Rattle.iso_lines.specs.Named.{changed, key_of, line_of, nobody};
+ghost use Rattle.iso_lines.specs.Named.{changed, key_of, line_of, nobody, same};
+ghost use Rattle.iso_lines.specs.Weighs.{weighs};
+ghost use Rattle.std.specs.Map.{keys_of};
 ghost use Rattle.iso_lines.specs.Tasks.{worked};
 ghost use Rattle.iso_lines.specs.Locks.{count_of, counts_below, names_of};
 
 use crate::desk::{Desk, change_in, empty_desks, request_in};
 use crate::lines::{Change, Lines};
+use crate::reads::{awaited, claimable, weight};
 use crate::tasks::Task;
 use crate::work::work;
 use iso_modes::{Mode, Term};
@@ -63,7 +66,8 @@ fn lessened(total: u32, before: usize, after: usize) -> u32
 impl Register {
     /// A lock list in which nobody holds or awaits a name. `Memory`: want of memory.
     pub fn new(alloc: Global) -> Result<Register, Memory>
-        ensures { IfOk result (λ l. (n : Other) → line_of l.lines n ≡ nobody) }
+        ensures lines { IfOk result (λ l. (n : Other) → line_of l.lines n ≡ nobody) }
+        ensures empty { IfOk result (λ l. l.lines.index ≡ []) }
     {
         let lines = Lines::new(alloc);
         let desks = empty_desks(alloc)?;
@@ -142,12 +146,63 @@ impl Register {
     }
 
     /// How many names the connection holds or awaits. Its cost is constant.
-    pub fn count(&self, conn: Conn) -> usize
+    pub fn count(&self, conn: Conn) -> u32
         requires { conn.0 < 32 }
         ensures count { result ≡ count_of self.now conn }
         ensures number { (ns : List Other) → IsDistinct name_eq ns → ((n : Other) → list_any (name_eq n) ns ≡ is_touched (line_of self.now.lines n) conn) → result ≡ length ns }
         ensures names { (n : Other) → is_some (key_of (names_of self.now conn) n) ≡ is_touched (line_of self.now.lines n) conn }
     {
-        self.desks[conn.0 as usize].names.len()
+        let count = self.desks[conn.0 as usize].names.len();
+        prove!(count <= self.total as usize);
+        count as u32
+    }
+
+    /// No name stands in the index twice.
+    pub fn names_once(&self)
+        ensures { IsDistinct same (keys_of self.now.lines.index) }
+    {
+        self.lines.names_once();
+    }
+
+    /// One of the names that the connection awaits. Its cost is the number of the names that it may await.
+    pub fn awaited(&self, conn: Conn) -> Option<&Name>
+        requires { conn.0 < 32 }
+        ensures some { IfSome result (λ n. is_waiter (line_of self.now.lines n.now).waiters conn ≡ true) }
+        ensures none { IfNone result ((n : Other) → is_waiter (line_of self.now.lines n).waiters conn ≡ false) }
+    {
+        let desk = &self.desks[conn.0 as usize];
+        awaited(&self.lines, &desk.awaited, conn)
+    }
+
+    /// One of the names that the connection awaits, where its wait has no edge. Its cost is the number of the names that it
+    /// may await, and of those who hold or await them.
+    pub fn claimable(&self, conn: Conn) -> Option<&Name>
+        requires { conn.0 < 32 }
+        ensures some { IfSome result (λ n. is_grantable (line_of self.now.lines n.now) conn ≡ true) }
+        ensures none { IfNone result ((n : Other) → is_grantable (line_of self.now.lines n) conn ≡ false) }
+    {
+        let desk = &self.desks[conn.0 as usize];
+        claimable(&self.lines, &desk.awaited, conn)
+    }
+
+    /// On how many rows and keys of the table the connection has a hold that is not Brief. Its cost is the number of the
+    /// connection's names.
+    pub fn weight(&self, conn: Conn, tables: &[TableId], table: TableId) -> u32
+        requires { conn.0 < 32 }
+        ensures { (ns : List Other) → IsDistinct name_eq ns → ((n : Other) → list_any (name_eq n) ns ≡ weighs tables.now conn table n (line_of self.now.lines n)) → result ≡ length ns }
+    {
+        let desk = &self.desks[conn.0 as usize];
+        let count = desk.names.len();
+        let weight = weight(&self.lines, &desk.names, conn, tables, table);
+        prove!(count <= self.total as usize);
+        prove!(weight <= count);
+        weight as u32
+    }
+
+    /// The names that somebody holds or awaits, each once. `Memory`: want of memory.
+    pub fn names(&self, alloc: Global) -> Result<Vec<&Name>, Memory>
+        ensures { IfOk result (λ v. map (λ n. n.now) v.items ≡ keys_of self.now.lines.index) }
+    {
+        self.lines.names(alloc)
     }
 }
