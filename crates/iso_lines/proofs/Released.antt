@@ -79,5 +79,6 @@ seated-none lines ds size idle none = record {
     waiting = λ n h. absurd (true≢false (sym h ∙ ap (λ (l : Line). is_waiter l.waiters (record { 0 = c })) (none n)));
   };
   unique = λ c d g. subst (λ (es : List (Name × ℕ)). IsDistinct same (keys_of es)) (sym (idle_at ds c d idle g)) distinct_none;
+  beyond = λ c le n. ap (λ l. is_touched l (record { 0 = c })) (none n);
   all = sym (idle_count ds idle 32);
 }

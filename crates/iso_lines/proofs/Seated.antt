@@ -1,5 +1,5 @@
 -- What one connection changed leaves the names of each connection as they should be.
-use Rattle.std.proofs.Common.{Result, Ok, Err, OnErr, map, slice_index_or, ◌≡◌, ◌≢◌, ◌⊎◌, ℕ, zero, suc, Bool, true, false, List, [], ◌∷◌, Some, is_some, slice_get, slice_set, refl, sym, ap, subst, ◌∙◌, inl, inr}
+use Rattle.std.proofs.Common.{◌<◌, ◌≤◌, arith, Result, Ok, Err, OnErr, map, slice_index_or, ◌≡◌, ◌≢◌, ◌⊎◌, ℕ, zero, suc, Bool, true, false, List, [], ◌∷◌, Some, is_some, slice_get, slice_set, refl, sym, ap, subst, ◌∙◌, inl, inr}
 use Rattle.std.proofs.lemmas.Bool.Decides.{eqb_tells}
 use Rattle.std.proofs.lemmas.List.{length-set}
 use Rattle.iso_queue.specs.Lines.{Line, is_touched, is_waiter}
@@ -102,7 +102,7 @@ module _ (lines new : Named) (c : Conn) (old desk : Desk) (inv : IsSeated lines 
 -- all desks are, where that of the connection is and the lines keep what they have of all others
 module _ (lines new : Named) (desks : List Desk) (total : ℕ) (inv : IsLocks lines desks total) (c : ℕ) (desk : Desk) (own : IsSeated new (conn c) desk)
     (once : IsDistinct same (keys_of desk.names.entries))
-    (rest : (d : Conn) → conn_eq (conn c) d ≡ false → (n : Name) → Rests (line_of lines n) (line_of new n) d) where
+    (within : c < 32) (rest : (d : Conn) → conn_eq (conn c) d ≡ false → (n : Name) → Rests (line_of lines n) (line_of new n) d) where
   one_seated : (e : ℕ) (d : Desk) → slice_get (slice_set desks c desk) e ≡ Some d → IsSeated new (conn e) d
   one_seated e d g =
       elim (eqb_tells c e) [
@@ -127,8 +127,14 @@ module _ (lines new : Named) (desks : List Desk) (total : ℕ) (inv : IsLocks li
         | inr y ↦ inv.unique e d (sym (set_there desks c e desk y.1) ∙ g)
       ]
 
+  one_beyond : (e : ℕ) → 32 ≤ e → (n : Name) → is_touched (line_of new n) (conn e) ≡ false
+  one_beyond e le n = elim (eqb_tells c e) [
+    | inl y ↦ absurd (omega (arith, le, within, y.1))
+    | inr y ↦ (rest (conn e) y.0 n).touched ∙ inv.beyond e le n
+  ]
+
   pub seated-all : (now : ℕ) → now ≡ counts_below (names_at (slice_set desks c desk)) 32 → IsLocks new (slice_set desks c desk) now
-  seated-all now all = record { size = length-set desks c desk ∙ inv.size; seated = one_seated; unique = one_unique; all = all }
+  seated-all now all = record { size = length-set desks c desk ∙ inv.size; seated = one_seated; unique = one_unique; beyond = one_beyond; all = all }
 
 -- a desk whose names are the same
 pub seated-like : (lines new : Named) (c : Conn) (old desk : Desk) → IsSeated lines c old → new ≡ lines → desk.names.entries ≡ old.names.entries

@@ -92,3 +92,22 @@ weighs_touched tables c t n q h = by (is_within tables t n) (hold_of q.holders c
     by true None f = absurd (true≢false (sym f))
     by true (Some x) f = refl
     by false o f = absurd (true≢false (sym f))
+
+pub none_is : {X : Type 0} (o : Option X) → o ≡ None → IfNone o (Unit {0})
+none_is None e = tt
+none_is (Some x) e = tt
+
+-- a connection that touches no line neither waits nor has anything to claim in it
+pub waiting_not : (q : Line) (c : Conn) → is_touched q c ≡ false → is_waiter q.waiters c ≡ false
+waiting_not q c h = by (is_some (hold_of q.holders c)) (is_waiter q.waiters c) h
+  where
+    by : (a b : Bool) → (a || b) ≡ false → b ≡ false
+    by true b f = absurd (true≢false f)
+    by false b f = f
+
+pub claiming_not : (q : Line) (c : Conn) → is_touched q c ≡ false → is_grantable q c ≡ false
+claiming_not q c h = by (is_grantable q c) refl
+  where
+    by : (b : Bool) → is_grantable q c ≡ b → b ≡ false
+    by true f = sym (grantable_waits q c f) ∙ waiting_not q c h
+    by false f = refl

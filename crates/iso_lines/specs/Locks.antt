@@ -1,7 +1,7 @@
 -- The lock list: what each name's line is, and the names of each connection. No order between names is told.
 use Rattle.std.specs.List.{IsDistinct, list_any}
 use Rattle.std.specs.Map.{keys_of}
-use Rattle.std.specs.Prelude.{Bool, true, not, ◌&&◌, ◌||◌, ◌≡◌, ◌+◌, ℕ, zero, suc, List, [], ◌∷◌, length, map, is_some, slice_get, slice_index_or, Some}
+use Rattle.std.specs.Prelude.{◌≤◌, Bool, true, false, not, ◌&&◌, ◌||◌, ◌≡◌, ◌+◌, ℕ, zero, suc, List, [], ◌∷◌, length, map, is_some, slice_get, slice_index_or, Some}
 use Rattle.iso_queue.specs.Lines.{Line, is_touched, is_waiter}
 use Rattle.iso_modes.specs.Terms.{is_kept}
 use Rattle.iso_queue.specs.declared.types.Hold.{Hold}
@@ -66,9 +66,11 @@ pub record IsSeated (lines : Named) (c : Conn) (d : Desk) : Type 0 where
   pub at_hand : (n : Name) → is_at_hand c (line_of lines n) ≡ true → is_some (key_of d.loose.entries n) ≡ true
   pub waiting : (n : Name) → is_waiter (line_of lines n).waiters c ≡ true → is_some (key_of d.awaited.entries n) ≡ true
 
--- there are 32 desks, each that of the connection of its number, with each of its names once, and the total is that of their names
+-- there are 32 desks, each that of the connection of its number, with each of its names once; no other connection holds or awaits
+-- a name; and the total is that of their names
 pub record IsLocks (lines : Named) (desks : List Desk) (total : ℕ) : Type 0 where
   pub size : length desks ≡ 32
   pub seated : (c : ℕ) (d : Desk) → slice_get desks c ≡ Some d → IsSeated lines (record { 0 = c }) d
   pub unique : (c : ℕ) (d : Desk) → slice_get desks c ≡ Some d → IsDistinct same (keys_of d.names.entries)
+  pub beyond : (c : ℕ) → 32 ≤ c → (n : Name) → is_touched (line_of lines n) (record { 0 = c }) ≡ false
   pub all : total ≡ counts_below (names_at desks) 32

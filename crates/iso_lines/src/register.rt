@@ -1,4 +1,4 @@
-ghost use Rattle.std.specs.Prelude.{List, [], true, map, length, ◌≡◌, ◌<◌, ◌≤◌, ◌+◌, IfOk, IfNone, IfSome, OnOk, OnErr, false, is_some, if◌then◌else◌};
+ghost use Rattle.std.specs.Prelude.{List, Some, slice_get, [], true, map, length, ◌≡◌, ◌<◌, ◌≤◌, ◌+◌, IfOk, IfNone, IfSome, OnOk, OnErr, false, is_some, if◌then◌else◌};
 ghost use Rattle.iso_queue.specs.Lines.{asked, is_grantable, is_granted, is_touched, is_waiter};
 ghost use Rattle.iso_queue.specs.declared.types.Asked.{Asked as Outcome};
 ghost use Rattle.std.specs.List.{IsDistinct, list_any};
@@ -61,6 +61,14 @@ fn lessened(total: u32, before: usize, after: usize) -> u32
     let less = before - after;
     prove!(less <= total as usize);
     total - less as u32
+}
+
+/// The desk of the connection, where it has one.
+fn desk_of(desks: &[Desk], conn: Conn) -> Option<&Desk>
+    ensures some { IfSome result (λ d. slice_get desks.now conn.0 ≡ Some d.now) }
+    ensures none { IfNone result (length desks.now ≤ conn.0) }
+{
+    desks.get(conn.0 as usize)
 }
 
 impl Register {
@@ -166,22 +174,21 @@ impl Register {
 
     /// One of the names that the connection awaits. Its cost is the number of the names that it may await.
     pub fn awaited(&self, conn: Conn) -> Option<&Name>
-        requires { conn.0 < 32 }
         ensures some { IfSome result (λ n. is_waiter (line_of self.now.lines n.now).waiters conn ≡ true) }
         ensures none { IfNone result ((n : Other) → is_waiter (line_of self.now.lines n).waiters conn ≡ false) }
     {
-        let desk = &self.desks[conn.0 as usize];
+        let desk = desk_of(&self.desks, conn)?;
         awaited(&self.lines, &desk.awaited, conn)
     }
 
     /// One of the names that the connection awaits, where its wait has no edge. Its cost is the number of the names that it
     /// may await, and of those who hold or await them.
     pub fn claimable(&self, conn: Conn) -> Option<&Name>
-        requires { conn.0 < 32 }
+        ensures within { IfSome result (λ n. conn.0 < 32) }
         ensures some { IfSome result (λ n. is_grantable (line_of self.now.lines n.now) conn ≡ true) }
         ensures none { IfNone result ((n : Other) → is_grantable (line_of self.now.lines n) conn ≡ false) }
     {
-        let desk = &self.desks[conn.0 as usize];
+        let desk = desk_of(&self.desks, conn)?;
         claimable(&self.lines, &desk.awaited, conn)
     }
 

@@ -25,7 +25,7 @@ pub invariant_of-self : goal.invariant_of-self
 invariant_of-self c =
     let at = slice_get_read c.self.inside.desks.items 32 c.args.conn.0 c.index_mut-desk.result.now (sym c.self.invariant.size) c.requires c.index_mut-desk.ensures.value in
     let q = line_of c.self.inside.lines c.args.name.now in
-    seated-all c.self.inside.lines c.change_in.new.lines c.self.inside.desks.items c.self.inside.total c.self.invariant c.args.conn.0 c.change_in.new.desk c.change_in.ensures.seated c.len-after.ensures.unique
+    seated-all c.self.inside.lines c.change_in.new.lines c.self.inside.desks.items c.self.inside.total c.self.invariant c.args.conn.0 c.change_in.new.desk c.change_in.ensures.seated c.len-after.ensures.unique c.requires
     (λ d apart. rests_one c.self.inside.lines c.change_in.new.lines c.args.name.now c.change_in.ensures.others d
     (subst (λ (r : Line). Rests q r d) (sym c.change_in.ensures.line) (changed_rests c.args.change q c.args.conn d apart)))
     c.lessened-self-inside.result

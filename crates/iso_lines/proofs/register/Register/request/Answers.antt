@@ -76,7 +76,7 @@ invariant_of-self c =
     let names = ap (λ (l : List (Name × ℕ)). length l) c.in_err-asked.ensures.same_names in
     seated-all c.self.inside.lines c.request_in.new.lines c.self.inside.desks.items c.self.inside.total c.self.invariant c.args.conn.0 c.request_in.new.desk c.request_in.ensures.seated
     (subst (λ (es : List (Name × ℕ)). IsDistinct same (keys_of es)) (sym c.in_err-asked.ensures.same_names)
-    (c.self.invariant.unique c.args.conn.0 c.index_mut-desk.result.now at))
+    (c.self.invariant.unique c.args.conn.0 c.index_mut-desk.result.now at)) c.requires.conn
     (λ d apart n. rests_same (line_of c.self.inside.lines n) (line_of c.request_in.new.lines n) d (ap (λ (l : Named). line_of l n) c.in_err-asked.ensures.err))
     c.self.inside.total
     (total_moved c.self.inside.desks.items c.self.inside.total c.args.conn.0 c.self.invariant.size c.requires.conn c.self.invariant.all c.index_mut-desk.result.now at c.request_in.new.desk c.self.inside.total
@@ -86,7 +86,7 @@ pub invariant_of-self-2 : goal.invariant_of-self-2
 invariant_of-self-2 c =
     let at = slice_get_read c.self.inside.desks.items 32 c.args.conn.0 c.index_mut-desk.result.now (sym c.self.invariant.size) c.requires.conn c.index_mut-desk.ensures.value in
     let q = line_of c.self.inside.lines c.args.name.now in
-    seated-all c.self.inside.lines c.request_in.new.lines c.self.inside.desks.items c.self.inside.total c.self.invariant c.args.conn.0 c.request_in.new.desk c.request_in.ensures.seated c.len-after.ensures.unique
+    seated-all c.self.inside.lines c.request_in.new.lines c.self.inside.desks.items c.self.inside.total c.self.invariant c.args.conn.0 c.request_in.new.desk c.request_in.ensures.seated c.len-after.ensures.unique c.requires.conn
     (λ d apart. rests_one c.self.inside.lines c.request_in.new.lines c.args.name.now c.in_ok-asked.ensures.others d
     (subst (λ (r : Line). Rests q r d) (sym c.in_ok-asked.ensures.line) (asked_rests q c.args.conn c.args.mode c.args.term d apart)))
     c.grown-self-inside.result

@@ -24,7 +24,7 @@ lessened-self-inside-requires-clause-part c =
 pub invariant_of-self : goal.invariant_of-self
 invariant_of-self c =
     let at = slice_get_read c.self.inside.desks.items 32 c.args.conn.0 c.index_mut-desk.result.now (sym c.self.invariant.size) c.requires c.index_mut-desk.ensures.value in
-    seated-all c.self.inside.lines c.work.new.lines c.self.inside.desks.items c.self.inside.total c.self.invariant c.args.conn.0 c.work.new.desk c.work.ensures.seated c.len-after.ensures.unique
+    seated-all c.self.inside.lines c.work.new.lines c.self.inside.desks.items c.self.inside.total c.self.invariant c.args.conn.0 c.work.new.desk c.work.ensures.seated c.len-after.ensures.unique c.requires
     (λ d apart n. subst (λ (r : Line). Rests (line_of c.self.inside.lines n) r d) (sym (c.work.ensures.lines n))
     (worked_rests c.args.tables.now c.args.task.now c.args.conn n (line_of c.self.inside.lines n) d apart))
     c.lessened-self-inside.result
