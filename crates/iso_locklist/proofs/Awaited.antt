@@ -6,7 +6,7 @@ use Rattle.std.specs.Prelude.{find, if◌then◌else◌, is_some, Option, None, 
 use Rattle.iso_locklist.specs.Holding.{AreLines, WaitsOnce}
 use Rattle.iso_locklist.specs.Lists.{named_wait}
 use Rattle.iso_locklist.specs.Places.{awaited, edges_in, is_grantable_in, nobody}
-use Rattle.iso_locklist.specs.declared.places.Place.{Place}
+use Rattle.iso_locklist.specs.Places.{Place}
 use Rattle.iso_locklist.proofs.Alike.{find_parts}
 use Rattle.iso_locklist.proofs.Bridge.{all_names, empty_line, is_one, once, once_one, placed, places_of}
 use Rattle.iso_locklist.proofs.Lists.{name_is, seek_map}

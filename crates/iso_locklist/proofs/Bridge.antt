@@ -5,7 +5,7 @@ use Rattle.std.specs.Prelude.{count_by, if◌then◌else◌}
 use Rattle.iso_locklist.specs.Holding.{AreLines}
 use Rattle.iso_locklist.specs.Lists.{named_hold, named_wait}
 use Rattle.iso_locklist.specs.Places.{all_taken, are_apart, line_at, names, nobody, one, taken, taken_below}
-use Rattle.iso_locklist.specs.declared.places.Place.{Place}
+use Rattle.iso_locklist.specs.Places.{Place}
 use Rattle.iso_locklist.proofs.Apart.{turned}
 use Rattle.iso_locklist.proofs.Lists.{name_is}
 use Rattle.iso_locklist.proofs.Names.{name_same}
@@ -170,7 +170,7 @@ distinct_none : IsDistinct name_eq []
 unfolding IsDistinct
 distinct_none = tt
 
-distinct_left : (p : Name → Bool) (ns : List Name) → are_apart ns ≡ true → IsDistinct name_eq (filter p ns)
+pub distinct_left : (p : Name → Bool) (ns : List Name) → are_apart ns ≡ true → IsDistinct name_eq (filter p ns)
 distinct_left p [] e = distinct_none
 distinct_left p (n ∷ ns) e =
     let q = and_parts (not (is_one ns n)) (are_apart ns) e in
@@ -196,7 +196,7 @@ left_by p k n ns false true e f ih =
     ∙ sym (ap (λ (b : Bool). (b || is_one ns k) && p k) e)
 left_by p k n ns false false e f ih = ap (list_any (name_eq k)) (gone p n ns f) ∙ ih ∙ sym (ap (λ (b : Bool). (b || is_one ns k) && p k) e)
 
-one_left : (p : Name → Bool) (k : Name) (ns : List Name) → list_any (name_eq k) (filter p ns) ≡ (is_one ns k && p k)
+pub one_left : (p : Name → Bool) (k : Name) (ns : List Name) → list_any (name_eq k) (filter p ns) ≡ (is_one ns k && p k)
 one_left p k [] = refl
 one_left p k (n ∷ ns) = left_by p k n ns (name_eq n k) (p n) refl refl (one_left p k ns)
 

@@ -1,8 +1,4 @@
 pub mod Names
-pub mod Updates
-pub mod Touched
-pub mod Counts
-pub mod Parts
 pub mod Apart
 pub mod Lists
 pub mod Taken
@@ -29,3 +25,4 @@ pub mod NewNames
 pub mod Weighed
 pub mod Bridge
 pub mod Awaited
+pub mod Registered
