@@ -103,7 +103,7 @@ impl LockList {
     }
 
     /// How many holds the connection has on the rows and keys of the table that are not Brief. Its cost is the number of
-    /// names, and of all who hold them. Db2 LUW, 'Lock escalation'; that Brief holds do not count is this project's own.
+    /// its names. Db2 LUW, 'Lock escalation'; that Brief holds do not count is this project's own.
     pub fn weight(&self, conn: Conn, table: TableId) -> u32
         requires { conn.0 < 32 }
         ensures { (head : Declared) (hs : List Held) (xs : List Awaiting) → HasTables head self.now → LocksAre hs xs self.now → IsSingleIn hs xs conn → result ≡ limits.weight head hs conn table }
@@ -112,15 +112,15 @@ impl LockList {
         self.weight_at(conn, table)
     }
 
-    /// The connection's hold on the name. Its cost is the number of names, and of those who hold the name.
+    /// The connection's hold on the name. Its cost is the number of those who hold the name.
     pub fn held(&self, conn: Conn, name: Name) -> Option<Hold>
         ensures { (hs : List Held) (xs : List Awaiting) → LocksAre hs xs self.now → option_map (named_hold name) result ≡ hold_on hs conn name }
     {
         self.hold_at(conn, &name)
     }
 
-    /// Whether a request for the mode would be granted without a wait. Its cost is the number of names, and of those who
-    /// hold or await the name.
+    /// Whether a request for the mode would be granted without a wait. Its cost is the number of those who hold or
+    /// await the name.
     pub fn would_grant(&self, conn: Conn, name: Name, mode: Mode) -> bool
         ensures { (hs : List Held) (xs : List Awaiting) → LocksAre hs xs self.now → is_waiting xs conn ≡ false → result ≡ grants_in hs xs conn name mode }
     {
@@ -129,7 +129,7 @@ impl LockList {
     }
 
     /// Whether the connection's hold on the name's table covers a request for the mode, which then takes no lock. Nothing
-    /// covers a request on a table. Its cost is the number of names, and of those who hold the table.
+    /// covers a request on a table. Its cost is the number of those who hold the table.
     pub fn covered(&self, conn: Conn, name: Name, mode: Mode) -> bool
         ensures { (head : Declared) (hs : List Held) (xs : List Awaiting) → HasTables head self.now → LocksAre hs xs self.now → result ≡ locks.is_covered head hs conn name mode }
     {
@@ -150,8 +150,8 @@ impl LockList {
         }
     }
 
-    /// Whether the connection waits, and its wait has no edge: a claim is granted then. Its cost is the number of names, and
-    /// of those who hold or await the name on which it waits.
+    /// Whether the connection waits, and its wait has no edge: a claim is granted then. Its cost is the number of
+    /// those who hold or await the name on which it waits.
     pub fn can_claim(&self, conn: Conn) -> bool
         ensures { (hs : List Held) (xs : List Awaiting) → LocksAre hs xs self.now → WaitsOnce xs conn → result ≡ queues.is_grantable hs xs conn }
     {
@@ -160,8 +160,8 @@ impl LockList {
     }
 
     /// The connections to which the connection's wait has an edge: each other holder of the name in a mode that does not
-    /// go with the target, and each earlier waiter. Its cost is the number of names and of all who await them, and 32 times
-    /// the number of those who hold or await the name.
+    /// go with the target, and each earlier waiter. Its cost is 32 times the number of those who hold or await the
+    /// name.
     pub fn edges(&self, conn: Conn) -> Edges
         ensures { (hs : List Held) (xs : List Awaiting) → LocksAre hs xs self.now → WaitsOnce xs conn → result.0 ≡ option_map_or (λ x. bits_of (λ d. list_any (conn_eq d) (queues.blockers hs xs x)) 32) (wait_of xs conn) 0 }
     {
@@ -172,15 +172,14 @@ impl LockList {
         }
     }
 
-    /// Whether another connection holds S or NW on the name. Its cost is the number of names, and of those who hold the
-    /// name.
+    /// Whether another connection holds S or NW on the name. Its cost is the number of those who hold the name.
     pub fn others_hold(&self, conn: Conn, name: Name) -> bool
         ensures { (hs : List Held) (xs : List Awaiting) → LocksAre hs xs self.now → result ≡ others_guard hs conn name }
     {
         self.is_guarded_at(conn, &name)
     }
 
-    /// Whether somebody holds or awaits the name. Its cost is the number of names.
+    /// Whether somebody holds or awaits the name. Its cost is constant.
     pub fn in_use(&self, name: Name) -> bool
         ensures { result ≡ is_used (line_at self.now.places name) }
     {
@@ -192,8 +191,8 @@ impl LockList {
 
     /// Requests the mode on the name. `Granted`: the connection holds it, with what it held before. `Queued`: it waits.
     /// Its need is a slot, or none where it holds or awaits the name. `AtShare`, `AtCapacity`: the need is at that limit,
-    /// whatever the queue; never where it holds the mode already. `Memory`: want of memory. After a fault nothing changed. Its cost is the number of names, and at most the product of
-    /// those who hold and those who await the name.
+    /// whatever the queue; never where it holds the mode already. `Memory`: want of memory. After a fault nothing changed. Its
+    /// cost is at most the product of those who hold and those who await the name.
     pub fn request(
         &mut self,
         conn: Conn,
@@ -298,8 +297,8 @@ impl LockList {
         }
     }
 
-    /// The connection's hold on the name goes. It takes no memory. Its cost is the number of names, and of those who hold
-    /// or await the name.
+    /// The connection's hold on the name goes. It takes no memory. Its cost is the number of those who hold or await the
+    /// name.
     pub fn release(&mut self, conn: Conn, name: Name)
         requires { conn.0 < 32 }
         ensures line { line_at self.new.places name ≡ released (line_at self.old.places name) conn }
@@ -311,8 +310,8 @@ impl LockList {
         self.register.names_once();
     }
 
-    /// The connection's hold on each name goes; its wait stays. It takes no memory. Its cost is the number of names and
-    /// of all who hold or await them.
+    /// The connection's hold on each name goes; its wait stays. It takes no memory. Its cost is the number of its names
+    /// and of those who hold or await them.
     pub fn release_all(&mut self, conn: Conn)
         requires { conn.0 < 32 }
         ensures lines { (n : Other) → line_at self.new.places n ≡ released (line_at self.old.places n) conn }
@@ -323,7 +322,7 @@ impl LockList {
     }
 
     /// Each Fresh hold of the connection becomes Kept, but on the name that is spared, and then its Brief holds go; all else
-    /// stays. It takes no memory. Its cost is the number of names and of all who hold or await them.
+    /// stays. It takes no memory. Its cost is the number of the names on which its hold is Fresh or Brief.
     pub fn settle(&mut self, conn: Conn, spare: Option<Name>)
         requires { conn.0 < 32 }
         ensures lines { (n : Other) → line_at self.new.places n ≡ settled (line_at self.old.places n) conn (is_spared spare n) }
@@ -343,7 +342,7 @@ impl LockList {
     }
 
     /// The connection's holds on the rows and keys of the table go; its hold on the table stays, and so does its wait. It
-    /// takes no memory. Its cost is the number of names and of all who hold or await them. Db2 LUW, 'Lock escalation'.
+    /// takes no memory. Its cost is the number of its names and of those who hold or await them. Db2 LUW, 'Lock escalation'.
     pub fn collapse(&mut self, conn: Conn, table: TableId)
         requires { conn.0 < 32 }
         ensures lists { (head : Declared) (hs : List Held) (xs : List Awaiting) → HasTables head self.old → LocksAre hs xs self.old → LocksAre (collapsed head conn table hs) xs self.new }
@@ -353,7 +352,7 @@ impl LockList {
     }
 
     /// The connection's wait goes, on whatever name it waits; its holds stay. It takes no memory. Its cost is the number
-    /// of names and of all who hold or await them.
+    /// of those who hold or await the name on which it waits.
     pub fn cancel(&mut self, conn: Conn)
         requires { conn.0 < 32 }
         ensures lines { (n : Other) → line_at self.new.places n ≡ cancelled (line_at self.old.places n) conn }
@@ -365,7 +364,7 @@ impl LockList {
 
     /// Grants the connection's wait where it has no edge, with what the connection held before; else nothing changes.
     /// `NotYet`: the wait has an edge, or the connection does not wait. It takes no memory. Its cost is the number of
-    /// names and of all who await them, and of those who hold the name on which it waits.
+    /// those who hold or await the name on which it waits.
     pub fn claim(&mut self, conn: Conn) -> Claimed
         ensures answer { result ≡ (if is_grantable_in self.old.places conn then Answer.Granted else Answer.NotYet) }
         ensures lines { (n : Other) → line_at self.new.places n ≡ claimed (line_at self.old.places n) conn }
