@@ -1,5 +1,5 @@
 -- The scan of an open statement along a history.
-use Rattle.std.proofs.Common.{◌≡◌, inl, inr, ℕ, Bool, true, false, ◌||◌, List, [], ◌∷◌, refl, sym, subst, Option, Some, None, arith, length, if◌then◌else◌}
+use Rattle.std.proofs.Common.{◌≡◌, inl, inr, ℕ, Bool, true, false, ◌||◌, List, [], ◌∷◌, refl, sym, subst, Option, Some, None, arith, if◌then◌else◌}
 use Rattle.std.specs.List.{list_all, list_any}
 use Rattle.std.specs.Option.{option_map}
 use Rattle.iso_agent.proofs.LookMade.{IsScanStep, heard-shows, made-look, steps_scan}
@@ -9,9 +9,7 @@ use Rattle.iso_agent.specs.Scans.{IsSoundPoint}
 use Rattle.iso_conduct.proofs.FrontsAlong.{may-made}
 use Rattle.iso_conduct.specs.Conduct.{Conduct, ConductFrom, Does, MayIn, ends, has_left, heard, is_by, made, moved_by, moved_in, opened, point, point_after, point_from, quiet, quiet_back, quiet_claim, quieted, ready, statement_at, stops_for_memory}
 use Rattle.iso_conduct.specs.Outcomes.{act_of}
-use Rattle.iso_conduct.specs.Parts.{Part}
-use Rattle.iso_conduct.specs.Parts.Part.{EntryLook, TableScan}
-use Rattle.iso_conduct.specs.Points.{Haul, Point, due, due_by, row_due, rows_due, start_point, told_all, told_point}
+use Rattle.iso_conduct.specs.Points.{Point, due, row_due, rows_due, start_point, told_all, told_point}
 use Rattle.iso_conduct.specs.declared.moves.Move.{Move}
 use Rattle.iso_conduct.specs.declared.moves.Told.{Told}
 use Rattle.iso_history.proofs.phantoms.Slots.{slots-grow}
@@ -38,8 +36,6 @@ use Rattle.iso_types.specs.declared.desk.Phase.{Phase}
 use Rattle.iso_types.specs.declared.desk.Phase.TheVariants.{Closing, Idle, Rolling, Running}
 use Rattle.iso_types.specs.declared.head.Head.{Head}
 use Rattle.iso_types.specs.declared.value.Conn.{Conn}
-use Rattle.iso_types.specs.declared.value.Rid.{Rid}
-use Rattle.iso_types.specs.declared.value.TableId.{TableId}
 
 -- an entry leaves no fewer slots
 pub later : (head : Head) (w : World) (e : Entry) → IsLater w (after head w e)

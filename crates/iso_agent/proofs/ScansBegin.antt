@@ -1,5 +1,5 @@
 -- A sound statement before its first entry.
-use Rattle.std.proofs.Common.{◌≡◌, ℕ, Bool, true, false, ◌&&◌, List, [], ◌∷◌, refl, sym, ap, ◌∙◌, subst, Option, Some, None, arith, length, filter, find, option_map, if◌then◌else◌}
+use Rattle.std.proofs.Common.{◌≡◌, ℕ, Bool, true, false, ◌&&◌, List, [], ◌∷◌, refl, sym, subst, Option, Some, None, arith, length, find, option_map, if◌then◌else◌}
 use Rattle.std.proofs.lemmas.Bool.{and_parts, eq-eqb, le-leb, lt-ltb}
 use Rattle.std.specs.List.{list_all}
 use Rattle.std.specs.Option.{option_map_or}
@@ -9,10 +9,9 @@ use Rattle.iso_conduct.proofs.Needs.{AllNeed, Locked}
 use Rattle.iso_conduct.proofs.NeedsBegin.{begin-needs}
 use Rattle.iso_conduct.specs.Conduct.{is_line_of, statement_at, statement_in, statement_on}
 use Rattle.iso_conduct.specs.Courses.{haul_size}
-use Rattle.iso_conduct.specs.Parts.{Part, Walk, change_list, change_want, key_column, level_in, listed, new_row, replies, scan, select_list, select_want}
+use Rattle.iso_conduct.specs.Parts.{Part, Walk, change_list, change_want, guards_keys, key_column, level_in, listed, new_row, replies, select_list, select_want}
 use Rattle.iso_conduct.specs.Parts.Part.{Answer, IndexScan, NewRow, Refuses, TableScan}
 use Rattle.iso_conduct.specs.Points.{first_haul, start_point}
-use Rattle.iso_history.proofs.whole.PressedWrites.{indexes-declared}
 use Rattle.iso_history.specs.Versions.{slots}
 use Rattle.iso_history.specs.World.{Setting, World}
 use Rattle.iso_history.specs.Writes.{minus}
@@ -24,16 +23,16 @@ use Rattle.iso_script.specs.Sound.{IsSoundHead, is_sound_line, is_sound_what}
 use Rattle.iso_script.specs.declared.script.Line.{Line}
 use Rattle.iso_script.specs.declared.script.What.{What}
 use Rattle.iso_sql.specs.Sound.{columns_of, is_sound_statement}
-use Rattle.iso_sql.specs.declared.statement.Condition.{Condition}
 use Rattle.iso_sql.specs.declared.statement.Items2.TheVariants.{All, Columns, Count}
 use Rattle.iso_sql.specs.declared.statement.Statement.{Statement}
 use Rattle.iso_sql.specs.declared.statement.Statement.TheVariants as st
 use Rattle.iso_standing.proofs.Slotted.{index-at}
-use Rattle.iso_types.specs.Head.{indexes_of, table_of_index}
+use Rattle.iso_types.specs.Head.{table_of_index}
 use Rattle.iso_types.specs.Ids.{table_eq}
 use Rattle.iso_types.specs.declared.head.Head.{Head}
 use Rattle.iso_types.specs.declared.head.IndexDef.{IndexDef}
 use Rattle.iso_types.specs.declared.head.Isolation.{Isolation}
+use Rattle.iso_types.specs.declared.head.Range.{Range}
 use Rattle.iso_types.specs.declared.value.Conn.{Conn}
 use Rattle.iso_types.specs.declared.value.IndexId.{IndexId}
 use Rattle.iso_types.specs.declared.value.TableId.{TableId}
@@ -77,18 +76,6 @@ statement-sound head lines c (Some n) s sound e =
 
 -- ---- its parts
 
-pub none-of : {A : Type 0} (xs : List A) → length xs ≡ 0 → xs ≡ []
-none-of [] e = refl
-none-of (x ∷ xs) e = absurd (omega (arith, e))
-
--- no index is of the table
-pub no-indexes : (head : Head) (t : TableId) → length head.indexes ≡ 0 → indexes_of head t ≡ []
-no-indexes head t plain = none-of (indexes_of head t) (indexes-declared head t ∙ filtered (λ d. table_eq d.table t) head.indexes plain)
-  where
-    filtered : {A : Type 0} (p : A → Bool) (xs : List A) → length xs ≡ 0 → length (filter p xs) ≡ 0
-    filtered p [] e = refl
-    filtered p (x ∷ xs) e = absurd (omega (arith, e))
-
 same-table : (t : TableId) → table_eq t t ≡ true
 same-table t = eq-eqb t.0 t.0 refl
 
@@ -129,15 +116,22 @@ module _ (head : Head) (w : World) (good : IsSoundHead head) where
       subst (λ n. nat_lt n (length (columns_of head k.table)) ≡ true) (sym column) (key-within k.index k.table on) in
       and-to (is_walk head s k) (list_all (is_within head w s) ps) (and-to (is_scanned s k.table) _ e (and-to _ _ a b)) rest
 
+  -- the scan by an index
+  abbrev walk_by : TableId → Want → Isolation → IndexId → Range → Walk
+  walk_by t want level i range =
+      record { table = t; want = want; index = i; column = key_column head i; range = range; guarded = guards_keys level }
+
   select-within : (s : Statement) (t : TableId) (level : Isolation) (path : Path) → is_scanned s t ≡ true → AllNeed head NoLock (select_list head t level path)
       → Within s (select_list head t level path)
   select-within s t level Path.Table e n = scan-within s t (select_want head.config.cur_commit level) (Answer ∷ []) e refl
-  select-within s t level (Path.Index i range) e n = walk-within s _ (Answer ∷ []) e n.1.0.1 refl refl
+  select-within s t level (Path.Index i range) e n =
+      walk-within s (walk_by t (select_want head.config.cur_commit level) level i range) (Answer ∷ []) e n.1.0.1 refl refl
 
   change-within : (s : Statement) (t : TableId) (level : Isolation) (path : Path) → is_scanned s t ≡ true → AllNeed head NoLock (change_list head t level path)
       → Within s (change_list head t level path)
   change-within s t level Path.Table e n = scan-within s t (change_want level) (Part.Changes t ∷ Answer ∷ []) e refl
-  change-within s t level (Path.Index i range) e n = walk-within s _ (Part.Changes t ∷ Answer ∷ []) e n.1.0.1 refl refl
+  change-within s t level (Path.Index i range) e n =
+      walk-within s (walk_by t (change_want level) level i range) (Part.Changes t ∷ Answer ∷ []) e n.1.0.1 refl refl
 
   insert-within : (s : Statement) (t : TableId) (row : List Value) → Within s (new_row head t row ∷ replies 1)
   insert-within s t row = go (has_null (columns_of head t) row)

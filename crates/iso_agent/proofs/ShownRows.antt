@@ -1,21 +1,18 @@
 -- The row that a look of an open statement shows may be told to its task.
-use Rattle.std.proofs.Common.{◌≡◌, ◌≤◌, ◌<◌, ◌+◌, ℕ, Bool, true, false, ◌&&◌, List, [], ◌∷◌, refl, sym, ap, subst, Option, Some, arith, if◌then◌else◌}
-use Rattle.std.proofs.lemmas.Bool.{and_parts, eqb-true, leb-true}
-use Rattle.std.specs.List.{list_all}
-use Rattle.std.specs.Prelude.{◌==◌, nat_le}
+use Rattle.std.proofs.Common.{◌≡◌, ◌≤◌, ◌<◌, ◌+◌, ℕ, Bool, true, false, List, [], ◌∷◌, refl, sym, ap, subst, Option, Some, arith, if◌then◌else◌}
+use Rattle.std.proofs.lemmas.Bool.{eqb-true}
+use Rattle.std.specs.Prelude.{◌==◌}
 use Rattle.iso_agent.proofs.ScanSteps.{IsLooking}
 use Rattle.iso_agent.specs.Scans.{IsSoundPoint, is_scanned}
 use Rattle.iso_conduct.proofs.Fitting.{reads-fit, row-long}
 use Rattle.iso_conduct.specs.Courses.{MayTell, fits_table, haul_size, key_within, keyed_within, reads_within, scan_slot, suits}
-use Rattle.iso_conduct.specs.Parts.{Part}
-use Rattle.iso_conduct.specs.Parts.Part.{TableScan}
 use Rattle.iso_conduct.specs.Points.{Point}
 use Rattle.iso_conduct.specs.declared.moves.Told.{Told}
 use Rattle.iso_history.proofs.log.Fitted.{present-fits}
 use Rattle.iso_history.specs.Fitted.{AllFit, Fits, RowsFit}
 use Rattle.iso_history.specs.Looks.{shown}
 use Rattle.iso_history.specs.Units.{unit_of}
-use Rattle.iso_history.specs.Versions.{committed, is_pending_beside, present, slots, versions, view_of}
+use Rattle.iso_history.specs.Versions.{committed, is_pending_beside, present, versions, view_of}
 use Rattle.iso_history.specs.World.{Version, World}
 use Rattle.iso_history.specs.declared.entry.Want.{Want}
 use Rattle.iso_history.specs.declared.entry.Want.TheVariants.{Dirty}

@@ -1,7 +1,7 @@
 -- Where memory may be wanting for what an entry tells, its connection runs; and what it tells may be told.
-use Rattle.std.proofs.Common.{◌≡◌, ◌≤◌, Bool, true, false, ◌||◌, ◌&&◌, List, [], ◌∷◌, refl, sym, subst}
+use Rattle.std.proofs.Common.{◌≡◌, inl, inr, ◌≤◌, Bool, true, false, ◌||◌, ◌&&◌, List, [], ◌∷◌, refl, sym, subst}
 use Rattle.std.specs.List.{list_any}
-use Rattle.iso_agent.proofs.LookMade.{heard-shows, is_look, made-look}
+use Rattle.iso_agent.proofs.LookMade.{IsScanStep, heard-shows, made-look, steps_scan}
 use Rattle.iso_agent.proofs.ScanSteps.{looking, tells_scan}
 use Rattle.iso_agent.proofs.ShownRows.{may-tell-shown}
 use Rattle.iso_agent.specs.Fits.{CanTell, wants}
