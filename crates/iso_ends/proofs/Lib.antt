@@ -5,3 +5,6 @@ pub mod Undoes
 pub mod Marking
 pub mod Closings
 pub mod Halts
+pub mod StaleReads
+pub mod PurgeWalks
+pub mod PurgeSteps

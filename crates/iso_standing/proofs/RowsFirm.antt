@@ -64,7 +64,8 @@ module _ (head : Head) (w : World) (s : IsSound head w) (c : Conn) where
   pub firm-other : (e : Entry) → Allowed head w e → is_by c e.who ≡ false → (t : TableId) (r : Rid) → Firm w c t r → Firm (after head w e) c t r
   firm-other e al other t r f = go e.who e.act al other
     where
-      go : (who : Who) (a : Act) → Allowed head w (record { who = who; act = a }) → is_by c who ≡ false → Firm (after head w (record { who = who; act = a })) c t r
+      go : (who : Who) (a : Act) → Allowed head w (record { who = who; act = a }) → is_by c who ≡ false
+          → Firm (after head w (record { who = who; act = a })) c t r
       go Dispatcher a al o = firm-after (record { who = Dispatcher; act = a }) al refl t r f
       go (Agent d) a al o = firm-after (record { who = Agent d; act = a }) al (rw o refl) t r f
 

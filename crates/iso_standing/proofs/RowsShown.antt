@@ -137,8 +137,14 @@ module _ (head : Head) (w : World) (c : Conn) (s : IsSound head w) (p : Point) w
     no-ask : (g : Written) → RowAsked g p.left
     no-ask g u r m rest f = let same : IndexScan k at ∷ ps ≡ Asks (Row u r) m ∷ rest = sym e ∙ f in cc
 
-    stepped-told : (o : Option Stand) → next head w c k.index k.range at k.guarded ≡ o
-        → IsTold head w c s p (next_by head w c k.index k.range at k.guarded o)
+    -- where the step stands, and its entry
+    abbrev stood : Option Stand
+    stood = next head w c k.index k.range at k.guarded
+
+    abbrev stepped : Option Stand → Act
+    stepped o = next_by head w c k.index k.range at k.guarded o
+
+    stepped-told : (o : Option Stand) → stood ≡ o → IsTold head w c s p (stepped o)
     stepped-told (Some (Stand.At v r)) q =
         (subst (λ z. Stands z v r) (sym e) (next-after head w c k.index k.range v r at k.guarded q), tt)
     stepped-told (Some Stand.Past) q = (tt, tt)
@@ -146,7 +152,5 @@ module _ (head : Head) (w : World) (c : Conn) (s : IsSound head w) (p : Point) w
     stepped-told (Some (Stand.TimedOut n)) q = (tt, tt)
     stepped-told None q = limit-is head w c s p
 
-    pub next-told : Allowed head w (by_agent c (unless_full head w c (next_by head w c k.index k.range at k.guarded (next head w c k.index k.range at k.guarded))))
-        → IsTold head w c s p (unless_full head w c (next_by head w c k.index k.range at k.guarded (next head w c k.index k.range at k.guarded)))
-    next-told al = told-unless head w c s p (next_by head w c k.index k.range at k.guarded (next head w c k.index k.range at k.guarded))
-        (λ b. stepped-told (next head w c k.index k.range at k.guarded) refl) al
+    pub next-told : Allowed head w (by_agent c (unless_full head w c (stepped stood))) → IsTold head w c s p (unless_full head w c (stepped stood))
+    next-told al = told-unless head w c s p (stepped stood) (λ b. stepped-told stood refl) al

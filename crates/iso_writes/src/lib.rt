@@ -4,6 +4,10 @@
 mod changing;
 mod coming;
 mod judging;
+mod indexes;
+mod keys;
+mod rivals;
+mod slots;
 mod steps;
 mod writing;
 
