@@ -28,7 +28,7 @@ pub fn step_due(alloc: Global, parts: &mut Parts, conn: Conn, task: &mut Task) -
     requires plain { length parts.old.head.indexes ≡ 0 } // keys come next
     requires may { MayGoOn parts.old.head (world_of parts.old) conn task.old }
     requires loud { quiet (world_of parts.old) conn (due task.old) ≡ None }
-    requires scans { ScansWithin (world_of parts.old) task.old }
+    requires scans { ScansWithin parts.old.head (world_of parts.old) task.old }
     ensures stands { StandsFor parts.new }
     ensures head { parts.new.head ≡ parts.old.head }
     ensures stepped { HasStepped parts.old.head parts.old.history.items parts.new.history.items conn (act_due parts.old.head (world_of parts.old) conn task.old) result }

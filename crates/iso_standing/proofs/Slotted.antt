@@ -14,11 +14,11 @@ use Rattle.iso_history.proofs.phantoms.Ordered.{has-with, has-without}
 use Rattle.iso_history.proofs.phantoms.RangeOthers.{index-table, index-there}
 use Rattle.iso_history.proofs.phantoms.Slots.{slots-grow, slots_in}
 use Rattle.iso_history.proofs.whole.Sound.{sound-after, start-sound}
-use Rattle.iso_history.specs.After.{start, world}
+use Rattle.iso_history.specs.After.{after, start, world}
 use Rattle.iso_history.specs.Entries.{entries_by, entries_of, pairing_of, with_pair, with_rows}
 use Rattle.iso_history.specs.Entries.Pairing.{Gains, Loses}
 use Rattle.iso_history.specs.Facts.{HasParts, IsSound}
-use Rattle.iso_history.specs.Legal.{By, Ground}
+use Rattle.iso_history.specs.Legal.{Allowed, By, Ground}
 use Rattle.iso_history.specs.Orders.{has_pair}
 use Rattle.iso_history.specs.Units.{unit_of, unit_of_maker}
 use Rattle.iso_history.specs.Versions.{Change, change_of, first_version, pending_version, slot_list, slots, tables_by, view, view_of}
@@ -178,6 +178,13 @@ rows-below head i n (row ∷ rows) p h = elim (has-with (key_in head i row, reco
   | inr f ↦ let a : p.1.0 ≡ n = ap (λ (q : Value × Rid). q.1.0) f in omega (arith, a)
 ]
 
+-- a sound world whose entries are of slots
+abbrev pub Filled : Head → World → Type 0
+Filled head w = IsSound head w × AreSlotted head w
+
+pub filled-after : (head : Head) (w : World) (e : Entry) → Allowed head w e → Filled head w → Filled head (after head w e)
+filled-after head w e al p = (sound-after head w e al p.0, slotted-act head w p.0.locks.parts e.who e.act al.2 p.1)
+
 module _ (head : Head) (sound : IsSoundHead head) where
   start-pairs : (i : IndexId) (t : TableId) → table_of_index head i ≡ Some t → entries_of (start head) i ≡ with_rows head i 0 (rows_of head t)
   start-pairs i t on =
@@ -205,10 +212,8 @@ module _ (head : Head) (sound : IsSoundHead head) where
       let is : slots (start head) t ≡ length (rows_of head t) = start-slots t (table-there head i t sound on) in
       omega (arith, below, is)
 
-  abbrev Both : World → Type 0
-  Both w = IsSound head w × AreSlotted head w
+  pub filled-start : Filled head (start head)
+  filled-start = (start-sound head, slotted-start)
 
   pub slotted-along : (es : List Entry) → Ground head es → AreSlotted head (world head es)
-  slotted-along es g =
-      (along head Both (λ w e al p. (sound-after head w e al p.0, slotted-act head w p.0.locks.parts e.who e.act al.2 p.1)) es
-      (start-sound head, slotted-start) g).1
+  slotted-along es g = (along head (Filled head) (filled-after head) es filled-start g).1
