@@ -19,3 +19,4 @@ pub mod Undoing
 pub mod Quieting
 pub mod Making
 pub mod Dues
+pub mod NextStepping
