@@ -4,3 +4,6 @@ pub mod Plain
 pub mod Insertions
 pub mod InsertSteps
 mod Judged
+mod Pairs
+mod Keyed
+mod Asked

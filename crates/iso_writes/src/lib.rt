@@ -4,10 +4,12 @@
 mod changing;
 mod coming;
 mod judging;
+mod keying;
 mod keys;
 mod rivals;
 mod slots;
 mod steps;
+mod taking;
 mod writing;
 
 pub use coming::Written;
