@@ -1,8 +1,8 @@
 -- The locks that a write takes: their names are new, and to add them is to place what its entry places.
-use Rattle.std.proofs.Common.{◌≡◌, ◌≤◌, ◌<◌, ◌+◌, ◌-◌, ◌++◌, append_assoc, ℕ, zero, suc, Bool, true, false, not, ◌&&◌, ◌||◌, List, [], ◌∷◌, map, length, refl, ap, sym, ◌∙◌, arith, Some, None, Option, filter, if◌then◌else◌}
+use Rattle.std.proofs.Common.{◌≡◌, ◌≤◌, ◌<◌, ◌+◌, ◌-◌, ◌++◌, append_assoc, ℕ, zero, suc, Bool, true, false, not, ◌&&◌, ◌||◌, List, [], ◌∷◌, map, length, refl, ap, sym, subst, ◌∙◌, arith, Some, None, Option, filter, if◌then◌else◌}
 use Rattle.std.specs.List.{AllByRecursion, cons_option, list_any, range_with_len}
 use Rattle.std.specs.Option.{option_and_then, option_map_or}
-use Rattle.std.proofs.lemmas.Bool.{and_parts, ltb-false-of}
+use Rattle.std.proofs.lemmas.Bool.{and_parts}
 use Rattle.std.proofs.lemmas.Bool.Decides.{nat_tests}
 use Rattle.iso_history.proofs.locks.Finds.{filter-here, filter-past}
 use Rattle.iso_history.proofs.locks.Holds.{held-other}
@@ -173,3 +173,95 @@ module _ (head : Head) (w : World) (c : Conn) (t : TableId) (row : List Value) w
           (placed-bare head c hs q (same (Key (the_index k) (key_in head (the_index k) row)) S ∙ g))
           ∙ ih (added hs c q) (more hs q (fine-key (the_index k) (key_in head (the_index k) row)) same)
           ∙ ap (λ (o : Option Asking). all_added hs c (cons_option o (key_asks head w c t row n (k + 1)))) (sym (one-asked (the_index k) e f g))
+
+-- ---- their names are new
+-- no two keys of different indexes are the same
+keys-apart : (i j : IndexId) (v u : Value) → index_eq i j ≡ false → name_eq (Key i v) (Key j u) ≡ false
+unfolding name_eq
+keys-apart i j v u e = rw e refl
+
+row-apart : (t : TableId) (r : Rid) (j : IndexId) (u : Value) → name_eq (Row t r) (Key j u) ≡ false
+unfolding name_eq
+row-apart t r j u = refl
+
+module _ (head : Head) (w : World) (c : Conn) (t : TableId) (row : List Value) where
+  -- what is asked for a key, by its tests
+  asked-by : (i : IndexId) → Bool → Bool → Option Asking
+  asked-by i inherits bare = if inherits && not bare then Some (record { name = Key i (key_in head i row); mode = S }) else None
+
+  -- a name that is none of the keys is none of what is asked for
+  pub none-same : (n : Name) (from : ℕ) → ((k : ℕ) → from ≤ k → name_eq n (Key (the_index k) (key_in head (the_index k) row)) ≡ false)
+      → (m k : ℕ) → from ≤ k → list_any (λ b. name_eq n b.name) (key_asks head w c t row m k) ≡ false
+  none-same n from other zero k le = refl
+  none-same n from other (suc m) k le =
+      go (is_index_of head t (the_index k)) refl (is_inherited head w c row (the_index k)) refl
+      (is_covered head w.holds c (Key (the_index k) (key_in head (the_index k) row)) S) refl (none-same n from other m (k + 1) (omega (arith, le)))
+    where
+      rest : List Asking → Bool
+      rest l = list_any (λ b. name_eq n b.name) l
+
+      with-ask : (o : Option Asking) → key_ask head w c t row (the_index k) ≡ o
+          → list_any (λ b. name_eq n b.name) (cons_option o (key_asks head w c t row m (k + 1))) ≡ false
+          → list_any (λ b. name_eq n b.name) (key_asks head w c t row (suc m) k) ≡ false
+      with-ask o e h = ap (λ (q : Option Asking). list_any (λ b. name_eq n b.name) (cons_option q (key_asks head w c t row m (k + 1)))) e ∙ h
+
+      go : (a : Bool) → is_index_of head t (the_index k) ≡ a → (b : Bool) → is_inherited head w c row (the_index k) ≡ b
+          → (d : Bool) → is_covered head w.holds c (Key (the_index k) (key_in head (the_index k) row)) S ≡ d
+          → list_any (λ b. name_eq n b.name) (key_asks head w c t row m (k + 1)) ≡ false
+          → list_any (λ b. name_eq n b.name) (key_asks head w c t row (suc m) k) ≡ false
+      go false e b f d g ih = with-ask None (none-off head w c t row (the_index k) e) ih
+      go true e false f d g ih = with-ask None (none-kept head w c t row (the_index k) e f) ih
+      go true e true f true g ih = with-ask None (none-bare head w c t row (the_index k) e f g) ih
+      go true e true f false g ih =
+          with-ask (Some (record { name = Key (the_index k) (key_in head (the_index k) row); mode = S })) (one-asked head w c t row (the_index k) e f g)
+          (rw (other k le) ih)
+
+  module _ (sound : LocksSound head w) where
+    pub new-at : (n : Name) → is_there head w n ≡ false → IsNew w.holds w.waits n
+    new-at n away = record {
+      held = no-holds head w n sound.there sound.awaited_there sound.alone away;
+      awaited = no-waits head w n sound.there sound.awaited_there sound.alone away;
+    }
+
+    pub keys-new : (m k : ℕ) → AreNew w.holds w.waits (key_asks head w c t row m k)
+    keys-new zero k = tt
+    keys-new (suc m) k =
+        go (is_index_of head t (the_index k)) refl (is_inherited head w c row (the_index k)) refl
+        (is_covered head w.holds c (Key (the_index k) (key_in head (the_index k) row)) S) refl (keys-new m (k + 1))
+      where
+        with-ask : (o : Option Asking) → key_ask head w c t row (the_index k) ≡ o
+            → AreNew w.holds w.waits (cons_option o (key_asks head w c t row m (k + 1))) → AreNew w.holds w.waits (key_asks head w c t row (suc m) k)
+        with-ask o e h = subst (λ (q : Option Asking). AreNew w.holds w.waits (cons_option q (key_asks head w c t row m (k + 1)))) (sym e) h
+
+        apart : (j : ℕ) → k + 1 ≤ j
+            → name_eq (Key (the_index k) (key_in head (the_index k) row)) (Key (the_index j) (key_in head (the_index j) row)) ≡ false
+        apart j le =
+            keys-apart (the_index k) (the_index j) (key_in head (the_index k) row) (key_in head (the_index j) row) (grind (arith, nat_tests, le))
+
+        go : (a : Bool) → is_index_of head t (the_index k) ≡ a → (b : Bool) → is_inherited head w c row (the_index k) ≡ b
+            → (d : Bool) → is_covered head w.holds c (Key (the_index k) (key_in head (the_index k) row)) S ≡ d
+            → AreNew w.holds w.waits (key_asks head w c t row m (k + 1)) → AreNew w.holds w.waits (key_asks head w c t row (suc m) k)
+        go false e b f d g ih = with-ask None (none-off head w c t row (the_index k) e) ih
+        go true e false f d g ih = with-ask None (none-kept head w c t row (the_index k) e f) ih
+        go true e true f true g ih = with-ask None (none-bare head w c t row (the_index k) e f g) ih
+        go true e true f false g ih =
+            with-ask (Some (record { name = Key (the_index k) (key_in head (the_index k) row); mode = S })) (one-asked head w c t row (the_index k) e f g)
+            (new-at (Key (the_index k) (key_in head (the_index k) row)) (inherited-new head w c row (the_index k) f),
+            none-same (Key (the_index k) (key_in head (the_index k) row)) (k + 1) apart m (k + 1) (omega arith), ih)
+
+    -- the row's name is new, too, where it has no slot yet
+    pub asks-new : (r : Rid) → is_there head w (Row t r) ≡ false → (m : ℕ)
+        → AreNew w.holds w.waits (cons_option (row_ask head w c t r) (key_asks head w c t row m 0))
+    asks-new r away m = go (is_covered head w.holds c (Row t r) X) refl
+      where
+        with-ask : (o : Option Asking) → row_ask head w c t r ≡ o → AreNew w.holds w.waits (cons_option o (key_asks head w c t row m 0))
+            → AreNew w.holds w.waits (cons_option (row_ask head w c t r) (key_asks head w c t row m 0))
+        with-ask o e h = subst (λ (q : Option Asking). AreNew w.holds w.waits (cons_option q (key_asks head w c t row m 0))) (sym e) h
+
+        go : (b : Bool) → is_covered head w.holds c (Row t r) X ≡ b
+            → AreNew w.holds w.waits (cons_option (row_ask head w c t r) (key_asks head w c t row m 0))
+        go true e = with-ask None (rw e refl) (keys-new m 0)
+        go false e =
+            with-ask (Some (record { name = Row t r; mode = X })) (rw e refl)
+            (new-at (Row t r) away,
+            none-same (Row t r) 0 (λ k le. row-apart t r (the_index k) (key_in head (the_index k) row)) m 0 (omega arith), keys-new m 0)

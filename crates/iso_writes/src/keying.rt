@@ -3,32 +3,22 @@ ghost use Rattle.std.specs.Prelude.{◌≡◌, ◌≢◌, ◌<◌, ◌≤◌, []
 ghost use Rattle.iso_key.specs.Entries.{has_pair};
 ghost use Rattle.iso_state.specs.Stands.{content_of};
 ghost use Rattle.iso_state.specs.Steps.{KeepsRoom};
-ghost use Rattle.iso_types.specs.declared.value.Value.TheVariants as values;
-ghost use Rattle.iso_writes.specs.Changing.{LeavesRoom, MayCome, MayRecord, own_key, with_pair_at, without_added, written_at};
+ghost use Rattle.iso_writes.specs.Changing.{LeavesRoom, MayCome, MayRecord, own_key as key_of_own, with_pair_at, without_added, written_at};
 
 use crate::changing::{Into, write_row};
+use crate::keys::value_in;
 use iso_state::Parts;
 use iso_types::{Conn, Head, Rid, Row, StepFault, TableId, Value};
 use std::alloc::Global;
 
-/// The row's value in the column.
-fn value_in(row: &Row, column: u8) -> Value
-    ensures { result ≡ slice_index_or row.now column values.Null }
-{
-    match row.as_slice().get(column as usize) {
-        Some(value) => *value,
-        None => Value::Null,
-    }
-}
-
 /// The row's key in the index with this number, where the index is the table's.
-pub fn key_of(head: &Head, table: TableId, row: &Row, at: usize) -> Option<Value>
+pub fn own_key(head: &Head, table: TableId, row: &Row, at: usize) -> Option<Value>
     requires at { at < length head.now.indexes }
-    ensures { result ≡ own_key head.now table row.now (record { 0 = at }) }
+    ensures { result ≡ key_of_own head.now table row.now (record { 0 = at }) }
 {
     let index = &head.indexes.as_slice()[at];
     if index.table.0 == table.0 {
-        Some(value_in(row, index.column))
+        Some(value_in(row.as_slice(), index.column))
     } else {
         None
     }
@@ -86,7 +76,7 @@ pub fn write_from(
     if at == parts.head.indexes.len() {
         return write_row(alloc, parts, conn, into, table, rid, row);
     }
-    let Some(key) = key_of(&parts.head, table, row, at) else {
+    let Some(key) = own_key(&parts.head, table, row, at) else {
         return write_from(alloc, parts, conn, into, table, rid, row, at + 1);
     };
     let added = add_pair(parts, at, &key, rid)?;

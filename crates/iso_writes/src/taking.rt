@@ -3,7 +3,7 @@ ghost use Rattle.std.specs.Prelude.{◌≡◌, ◌≢◌, ◌<◌, ◌≤◌, �
 ghost use Rattle.std.specs.List.{cons_option};
 ghost use Rattle.iso_locklist.specs.Holding.{AreNew, LocksAre, all_added};
 ghost use Rattle.iso_locklist.specs.Places.{IsSameLimits};
-ghost use Rattle.iso_queue.specs.Locks.{Hold, settled, without_briefs};
+ghost use Rattle.iso_queue.specs.Locks.{Hold, freed, settled, without_briefs};
 ghost use Rattle.iso_queue.specs.Queues.{Wait, is_waiting};
 ghost use Rattle.iso_state.specs.Changes.{relocked};
 ghost use Rattle.iso_state.specs.Stands.{StandsFor, content_of, world_of};
@@ -11,7 +11,7 @@ ghost use Rattle.iso_state.specs.Steps.{KeepsRoom};
 ghost use Rattle.iso_writes.specs.Changing.{LeavesRoom, MayCome, MayRecord, key_ask as ask_on_key, key_asks, row_ask as ask_on_row, written_at};
 
 use crate::changing::Into;
-use crate::keying::{key_of, write_from};
+use crate::keying::{own_key, write_from};
 use crate::keys::inherits_key;
 use iso_locklist::{Asking, LockList};
 use iso_modes::Mode;
@@ -40,7 +40,7 @@ fn key_ask(parts: &Parts, conn: Conn, table: TableId, row: &Row, at: usize) -> O
     requires few { at < 256 }
     ensures { result ≡ ask_on_key parts.now.head (world_of parts.now) conn table row.now (record { 0 = at }) }
 {
-    let key = key_of(&parts.head, table, row, at)?;
+    let key = own_key(&parts.head, table, row, at)?;
     let index = IndexId(at as u8);
     let name = Name::Key(index, key);
     let mode = Mode::S;
@@ -88,6 +88,15 @@ fn add_ask(asks: &mut Items<Asking>, ask: &Option<Asking>) -> Result<(), StepFau
     }
 }
 
+/// The connection's hold on the name goes.
+fn release_one(locks: &mut LockList, conn: Conn, name: &Name)
+    requires { conn.0 < 32 }
+    ensures lists { (hs : List Hold) (xs : List Wait) → LocksAre hs xs locks.old → LocksAre (freed conn name.now hs) xs locks.new }
+    ensures limits { IsSameLimits locks.new locks.old }
+{
+    locks.release(conn, *name);
+}
+
 /// Gives back the locks that were taken on these names, from this place on: the last first.
 fn release_from(locks: &mut LockList, conn: Conn, asks: &[Asking], at: usize)
     requires conn { conn.0 < 32 }
@@ -96,8 +105,9 @@ fn release_from(locks: &mut LockList, conn: Conn, asks: &[Asking], at: usize)
     ensures limits { IsSameLimits locks.new locks.old }
 {
     if at < asks.len() {
+        let asking = &asks[at];
         release_from(locks, conn, asks, at + 1);
-        locks.release(conn, asks[at].name);
+        release_one(locks, conn, &asking.name);
     }
 }
 

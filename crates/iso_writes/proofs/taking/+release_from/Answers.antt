@@ -17,4 +17,4 @@ returns-then-at-asks-clause-lists t c = λ hs xs new are.
     let one = asked_for a.name a.mode Kept in
     let held = subst (λ (l : List Asking). LocksAre (all_added hs d l) xs c.args.locks.now) e are in
     let rest = c.release_from.ensures.lists (added hs d one) xs (still_new hs xs a.name all.0 d a.mode (drop (c.args.at + 1) asks) all.1 all.2) held in
-    back hs xs a.name all.0 d a.mode (λ n. line_of c.release.new.self n) (c.release.ensures.lists (added hs d one) xs rest)
+    back hs xs a.name all.0 d a.mode (λ n. line_of c.release_one.new.locks n) (c.release_one.ensures.lists (added hs d one) xs rest)
