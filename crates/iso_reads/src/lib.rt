@@ -6,7 +6,9 @@ mod laws;
 mod looking;
 mod outcomes;
 mod slots;
+mod stepping;
 
 pub use laws::pins_are_current;
 pub use looking::look;
 pub use outcomes::Looked;
+pub use stepping::{Stepped, next_entry};

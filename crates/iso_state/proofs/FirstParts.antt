@@ -1,5 +1,5 @@
 -- The first parts stand for the empty history.
-use Rattle.std.proofs.Common.{◌≡◌, ◌≤◌, ◌<◌, ◌+◌, ◌*◌, ℕ, zero, suc, Bool, true, false, List, [], ◌∷◌, ◌++◌, length, map, refl, ap, sym, ◌∙◌, Some, None, Option, filter, take, get_or, if◌then◌else◌, ◌&&◌, arith}
+use Rattle.std.proofs.Common.{◌≡◌, ◌≤◌, ◌<◌, ◌+◌, ◌*◌, ℕ, zero, suc, Bool, true, false, List, [], ◌∷◌, ◌++◌, length, map, refl, ap, sym, ◌∙◌, None, Option, filter, take, get_or, if◌then◌else◌, arith}
 use Rattle.std.specs.Prelude.{cond, slice_get, slice_index_or, replicate}
 use Rattle.std.specs.Option.{option_map_or}
 use Rattle.std.proofs.lemmas.List.{length-map, map-append, length-replicate}
@@ -110,15 +110,11 @@ first-room head spare log_spare le = record {
 pub first-place : (head : Head) (spare log_spare : ℕ) → HeadFits head → length head.conns * 2 + 2 ≤ spare → HasPlace (first_content head) spare log_spare
 first-place head spare log_spare fits le = record { stands = first-stands head fits; room = first-room head spare log_spare le }
 
--- without an index there are no entries
-no-entries : (head : Head) → head.indexes ≡ [] → [] ≡ first_entries head
-no-entries head e = rw e refl
-
 -- the content, from what each part is
 pub first-is : (head copy : Head) (tables : List (Filled Slot)) (log : Journal) (units : Book) (indexes : List (List (List (Value × Rid)))) (locks : Ledger)
     (desks : List Desk) (past : List Entry) (reserved : ℕ) → copy ≡ head → bare tables ≡ map (λ t. map new_slot (rows_of head t)) (tables_of head)
     → log.records ≡ [] → log.window ≡ head.config.window → log.logmax ≡ head.config.logmax
-    → units.begun ≡ 0 → units.works ≡ replicate (length head.conns) None → indexes ≡ [] → head.indexes ≡ []
+    → units.begun ≡ 0 → units.works ≡ replicate (length head.conns) None → map entries indexes ≡ first_entries head
     → locks ≡ first_locks head → desks ≡ map first_desk head.conns → past ≡ [] → reserved ≡ length head.conns * 2 + 2
     → record {
       head = copy;
@@ -131,20 +127,20 @@ pub first-is : (head copy : Head) (tables : List (Filled Slot)) (log : Journal) 
       history = past;
       reserved = reserved;
     } ≡ first_content head
-first-is head copy tables log units indexes locks desks past reserved same slots none window logmax begun works bare_of plain free idle empty sum =
-    go copy (bare tables) log.records log.window log.logmax units.begun units.works indexes locks desks past reserved
-    same slots none window logmax begun works bare_of free idle empty sum
+first-is head copy tables log units indexes locks desks past reserved same slots none window logmax begun works keys free idle empty sum =
+    go copy (bare tables) log.records log.window log.logmax units.begun units.works (map entries indexes) locks desks past reserved
+    same slots none window logmax begun works keys free idle empty sum
   where
     go : (copy : Head) (tables : List (List Slot)) (records : List Record) (window logmax begun : ℕ) (works : List (Option Work))
-        (indexes : List (List (List (Value × Rid)))) (locks : Ledger) (desks : List Desk) (past : List Entry) (reserved : ℕ)
+        (pairs : List (List (Value × Rid))) (locks : Ledger) (desks : List Desk) (past : List Entry) (reserved : ℕ)
         → copy ≡ head → tables ≡ map (λ t. map new_slot (rows_of head t)) (tables_of head) → records ≡ [] → window ≡ head.config.window
-        → logmax ≡ head.config.logmax → begun ≡ 0 → works ≡ replicate (length head.conns) None → indexes ≡ [] → locks ≡ first_locks head
+        → logmax ≡ head.config.logmax → begun ≡ 0 → works ≡ replicate (length head.conns) None → pairs ≡ first_entries head → locks ≡ first_locks head
         → desks ≡ map first_desk head.conns → past ≡ [] → reserved ≡ length head.conns * 2 + 2
         → record {
           head = copy;
           chain = record { tables = tables; log = records; book = record { begun = begun; works = works } };
           bounds = record { window = window; logmax = logmax };
-          entries = map entries indexes;
+          entries = pairs;
           locks = locks;
           desks = desks;
           pace = calm;
@@ -152,8 +148,8 @@ first-is head copy tables log units indexes locks desks past reserved same slots
           reserved = reserved;
         }
         ≡ first_content head
-    go copy tables records window logmax begun works indexes locks desks past reserved a b c d e f g h i j k l =
-        rw (a, b, c, d, e, f, g, h, i, j, k, l) (ap (λ (es : List (List (Value × Rid))). record (first_content head) { entries = es }) (no-entries head plain))
+    go copy tables records window logmax begun works pairs locks desks past reserved a b c d e f g h i j k l =
+        rw (a, b, c, d, e, f, g, h, i, j, k, l) refl
 
 -- the lock list, from its fields
 pub locks-are : (head : Head) (l : Ledger) → l.places ≡ [] → l.share ≡ lock_share head.config → l.slots ≡ lock_slots head.config

@@ -10,3 +10,4 @@ pub mod Waits
 pub mod Shuts
 pub mod News
 pub mod FactsAlong
+pub mod FirstKeys

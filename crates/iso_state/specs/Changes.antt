@@ -2,6 +2,8 @@
 use Rattle.std.specs.Prelude.{ℕ, false, List, [], ◌∷◌, ◌++◌, slice_set}
 use Rattle.iso_types.specs.declared.desk.Desk.{Desk}
 use Rattle.iso_types.specs.declared.value.Conn.{Conn}
+use Rattle.iso_types.specs.declared.value.Rid.{Rid}
+use Rattle.iso_types.specs.declared.value.Value.{Value}
 use Rattle.iso_chain.specs.Stands.{Chained}
 use Rattle.iso_history.specs.declared.entry.Entry.{Entry}
 use Rattle.iso_history.specs.World.{Pace}
@@ -15,6 +17,10 @@ relocked p l = record p { locks = l }
 -- with other slots, log and units
 abbrev pub rechained : Content → Chained → Content
 rechained p k = record p { chain = k }
+
+-- with other entries of the indexes
+abbrev pub reentered : Content → List (List (Value × Rid)) → Content
+reentered p es = record p { entries = es }
 
 -- with these slots, log and units, this lock list, these desks, this sum of reserves, and one more entry
 abbrev pub stepped : Content → Chained → Ledger → List Desk → ℕ → Entry → Content

@@ -1,13 +1,15 @@
 -- When parts stand for their history.
 use Rattle.std.specs.List.{list_all}
-use Rattle.std.specs.Prelude.{◌≡◌, ◌<◌, ◌≤◌, Bool, ℕ, true, false, List, [], length, map, nat_le, slice_index_or, unwrap_or, IfSome}
-use Rattle.iso_types.specs.Head.{lock_share, lock_slots, row_fits}
+use Rattle.std.specs.Prelude.{◌≡◌, ◌<◌, ◌≤◌, ◌&&◌, Bool, ℕ, true, false, List, length, map, nat_le, nat_lt, slice_index_or, unwrap_or, IfSome}
+use Rattle.iso_types.specs.Head.{indexes_of, lock_share, lock_slots, row_fits, width_of}
 use Rattle.iso_types.specs.declared.desk.Desk.{Desk}
 use Rattle.iso_types.specs.declared.desk.Phase.TheVariants.{Idle}
 use Rattle.iso_types.specs.declared.head.Head.{Head}
+use Rattle.iso_types.specs.declared.head.IndexDef.{IndexDef}
 use Rattle.iso_types.specs.declared.head.Isolation.TheVariants.{Cs}
 use Rattle.iso_types.specs.declared.value.Conn.{Conn}
 use Rattle.iso_types.specs.declared.value.Rid.{Rid}
+use Rattle.iso_types.specs.declared.value.TableId.{TableId}
 use Rattle.iso_types.specs.declared.value.Value.{Value}
 use Rattle.iso_chain.specs.Stands.{AreChained, Chained}
 use Rattle.iso_chain.specs.Views.{chained}
@@ -99,6 +101,10 @@ pub record IsBoundBy (head : Head) (b : Bounds) : Type 0 where
   pub window : b.window ≡ head.config.window
   pub logmax : b.logmax ≡ head.config.logmax
 
+-- the index stands on a column of a table of the head
+abbrev pub is_placed : Head → IndexDef → Bool
+is_placed head d = nat_lt d.table.0 (length head.tables) && nat_lt d.column (width_of head d.table)
+
 -- what the steps ask of a head; a script that is read has it
 pub record HeadFits (head : Head) : Type 0 where
   pub tables : length head.tables ≤ 16
@@ -107,6 +113,9 @@ pub record HeadFits (head : Head) : Type 0 where
   pub rows : list_all (λ f. row_fits head f.table f.row) head.rows ≡ true
   pub locklist : head.config.locklist ≤ 4096
   pub maxlocks : head.config.maxlocks ≤ 100
+  pub indexes : list_all (is_placed head) head.indexes ≡ true
+  pub some_indexes : length head.indexes ≤ 32
+  pub few_indexes : (t : TableId) → length (indexes_of head t) ≤ 4
 
 -- the content is that of this world
 pub record AreOf (w : World) (p : Content) : Type 0 where

@@ -3,6 +3,7 @@
 
 mod chain;
 mod changes;
+mod keys;
 mod locks;
 mod pace;
 mod parts;

@@ -5,6 +5,7 @@ ghost use Rattle.iso_types.specs.Head.{rows_of, tables as tables_of};
 ghost use Rattle.iso_state.specs.Firsts.{first_content, first_desk};
 ghost use Rattle.iso_state.specs.Stands.{HeadFits, StandsFor, content_of};
 
+use crate::keys::first_indexes;
 use crate::pace::Pace;
 use iso_history::History;
 use iso_key::KeyIndex;
@@ -91,20 +92,12 @@ fn first_history(alloc: Global, reserved: u32) -> Result<History, Memory>
     Ok(history)
 }
 
-/// No index.
-fn no_indexes(alloc: Global) -> Items<KeyIndex>
-    ensures { result ≡ [] }
-{
-    Items::new(alloc)
-}
-
 impl Parts {
-    /// The parts of the empty history over a copy of the head without an index: tables with the rows that the head gives
-    /// them, and idle connections. `Memory` where there is none. It copies all that the head declares, the rows twice, and
-    /// looks at each of its rows once for each table.
+    /// The parts of the empty history over a copy of the head: tables with the rows that the head gives them, indexes with
+    /// the keys of these rows, and idle connections. `Memory` where there is none. It copies all that the head declares, the
+    /// rows twice, looks at each of its rows once for each table, and places each row once in each index of its table.
     pub fn new(alloc: Global, head: &Head) -> Result<Parts, Memory>
         requires fits { HeadFits head.now }
-        requires plain { head.now.indexes ≡ [] }
         ensures stands { IfOk result (λ p. StandsFor p) }
         ensures head { IfOk result (λ p. p.head ≡ head.now) }
         ensures content { IfOk result (λ p. content_of p ≡ first_content head.now) }
@@ -112,10 +105,12 @@ impl Parts {
     {
         let conns = head.conns.len() as u32;
         let reserved = 2 * conns + 2;
+        let tables = first_tables(alloc, head)?;
+        let indexes = first_indexes(alloc, head, &tables)?;
         Ok(Parts {
             head: head.copied(alloc)?,
-            tables: first_tables(alloc, head)?,
-            indexes: no_indexes(alloc),
+            tables,
+            indexes,
             locks: LockList::new(alloc, head)?,
             log: Log::new(alloc, &head.config),
             units: Units::new(alloc, conns as u8)?,

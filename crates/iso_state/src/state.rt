@@ -25,11 +25,10 @@ impl Model for State {
 }
 
 impl State {
-    /// The state of the empty history over a copy of the head, which has no index; `Memory` where there is none.
-    /// It copies all that the head declares.
+    /// The state of the empty history over a copy of the head; `Memory` where there is none. Its cost is that of
+    /// `Parts::new`.
     pub fn new(alloc: Global, head: &Head) -> Result<State, Memory>
         requires fits { HeadFits head.now }
-        requires plain { head.now.indexes ≡ [] }
         ensures head { IfOk result (λ s. s.head ≡ head.now) }
         ensures history { IfOk result (λ s. s.history ≡ []) }
     {
