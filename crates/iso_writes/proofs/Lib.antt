@@ -7,3 +7,7 @@ mod Judged
 mod Pairs
 mod Keyed
 mod Asked
+pub mod SlotReads
+pub mod Walks
+pub mod Firsts
+pub mod Numbered

@@ -1,3 +1,4 @@
 pub mod Changing
 pub mod Answers
-pub mod Rivals
+pub mod Walk
+pub mod Ordered

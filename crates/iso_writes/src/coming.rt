@@ -1,6 +1,6 @@
 //! What comes of a write: what its judging finds, and what its step answers.
 ghost use Rattle.std.specs.Prelude.{◌≡◌, true};
-ghost use Rattle.iso_writes.specs.Rivals.{is_done};
+ghost use Rattle.iso_writes.specs.Walk.{is_done};
 ghost use Rattle.iso_writes.specs.Answers.{coming_as, comes_at_limit, limited as limited_by};
 
 use iso_locks::Answer;

@@ -63,7 +63,7 @@ pub fn same_value(a: &Value, b: &Value) -> bool
 
 /// Whether the row is there and has the key.
 pub fn row_has_key(head: &Head, index: IndexId, key: &Value, row: Option<&Row>) -> bool
-    ensures { result ≡ row_has head.now index key.now (option_copied row) }
+    ensures { result ≡ row_has head.now index key.now (option_copied row.entry) }
 {
     match row {
         Some(row) => same_value(&key_of(head, index, row), key),

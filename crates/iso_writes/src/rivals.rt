@@ -7,7 +7,7 @@ ghost use Rattle.iso_key.specs.Pages.{entries};
 ghost use Rattle.iso_state.specs.Stands.{StandsFor, world_of};
 ghost use Rattle.iso_types.specs.Value.{value_eq};
 ghost use Rattle.iso_writes.specs.Answers.{coming_as};
-ghost use Rattle.iso_writes.specs.Rivals.{entry_from, is_left, others, rivals_in};
+ghost use Rattle.iso_writes.specs.Walk.{entry_from, is_left, others, rivals_in};
 
 use crate::coming::Coming;
 use crate::keys::{index_at, is_unique, row_has_key, same_value};
