@@ -174,6 +174,11 @@ module _ (head : Head) (w : World) (c : Conn) (t : TableId) (row : List Value) w
           ∙ ih (added hs c q) (more hs q (fine-key (the_index k) (key_in head (the_index k) row)) same)
           ∙ ap (λ (o : Option Asking). all_added hs c (cons_option o (key_asks head w c t row n (k + 1)))) (sym (one-asked (the_index k) e f g))
 
+-- a lock on a row covers no other
+pub row-covers : (head : Head) (w : World) (c : Conn) (t : TableId) (r : Rid) (n : Name) (m : Mode)
+    → is_covered head (added w.holds c (request_on (Row t r) (X, Kept))) c n m ≡ is_covered head w.holds c n m
+row-covers head w c t r n m = covered-added head c w.holds (request_on (Row t r) (X, Kept)) (fine-row t r) n m
+
 -- ---- their names are new
 -- no two keys of different indexes are the same
 keys-apart : (i j : IndexId) (v u : Value) → index_eq i j ≡ false → name_eq (Key i v) (Key j u) ≡ false

@@ -1,8 +1,5 @@
 pub mod ChangeSteps
 pub mod Rows
-pub mod Plain
-pub mod Insertions
-pub mod InsertSteps
 mod Judged
 mod Pairs
 mod Keyed
@@ -11,3 +8,6 @@ pub mod SlotReads
 pub mod Walks
 pub mod Firsts
 pub mod Numbered
+mod Writable
+mod Taken
+mod RowSteps
