@@ -3,7 +3,7 @@ use Rattle.std.proofs.Common.{◌≡◌, ◌≤◌, ◌+◌, ℕ, Bool, true, fa
 use Rattle.std.specs.Prelude.{nat_le}
 use Rattle.iso_history.proofs.whole.Pressed.{no-need, pressed-by}
 use Rattle.iso_history.proofs.whole.PressedWrites.{insert-needs}
-use Rattle.iso_history.specs.Outcomes.{at_limit, escalated_by, limited_by}
+use Rattle.iso_history.specs.Outcomes.{at_limit, blocked_by, escalated_by, limited_by}
 use Rattle.iso_history.specs.Records.{is_past_log}
 use Rattle.iso_history.specs.Requests.{Outcome, escalation, is_limited, is_pressed, request}
 use Rattle.iso_history.specs.Requests.Outcome.{Gives, Limit}
@@ -20,10 +20,12 @@ use Rattle.iso_queue.specs.Locks.{is_covered}
 use Rattle.iso_types.specs.declared.head.Head.{Head}
 use Rattle.iso_types.specs.declared.value.Conn.{Conn}
 use Rattle.iso_types.specs.declared.value.IndexId.{IndexId}
+use Rattle.iso_types.specs.declared.value.Name.{Name}
 use Rattle.iso_types.specs.declared.value.Name.TheVariants.{Row, Table}
 use Rattle.iso_types.specs.declared.value.Rid.{Rid}
 use Rattle.iso_types.specs.declared.value.TableId.{TableId}
 use Rattle.iso_types.specs.declared.value.Value.{Value}
+use Rattle.iso_writes.specs.Changing.{blocked_by_name}
 use Rattle.iso_writes.specs.Answers.{answer_of, comes_at_limit, limited, past_or_done}
 
 by-log : (limited past b : Bool) → limited ≡ false → b ≡ past
@@ -61,5 +63,23 @@ limit-answer head w c = go (escalation head w c)
     by t m Limit = refl
 
     go : (o : Option (TableId × Mode)) → limited (lock_answer (limited_by head w c o)) ≡ answer_of (limited_by head w c o)
+    go None = refl
+    go (Some p) = by p.0 p.1 (request head w c (Table p.0) p.1)
+
+-- what is answered to the lock of a blocked write
+pub blocked-answer : (head : Head) (w : World) (c : Conn) (n : Name) (m : Mode) (o : Outcome)
+    → blocked_by_name (lock_answer (blocked_by head w c n m o)) n ≡ answer_of (blocked_by head w c n m o)
+blocked-answer head w c n m (Gives Got.Granted) = refl
+blocked-answer head w c n m (Gives (Got.Queued to)) = refl
+blocked-answer head w c n m (Gives Got.TimedOut) = refl
+blocked-answer head w c n m Limit = go (escalation head w c)
+  where
+    by : (t : TableId) (k : Mode) (o : Outcome) → blocked_by_name (lock_answer (escalated_by t k o)) n ≡ answer_of (escalated_by t k o)
+    by t k (Gives Got.Granted) = refl
+    by t k (Gives (Got.Queued to)) = refl
+    by t k (Gives Got.TimedOut) = refl
+    by t k Limit = refl
+
+    go : (o : Option (TableId × Mode)) → blocked_by_name (lock_answer (limited_by head w c o)) n ≡ answer_of (limited_by head w c o)
     go None = refl
     go (Some p) = by p.0 p.1 (request head w c (Table p.0) p.1)

@@ -11,3 +11,4 @@ pub mod Numbered
 mod Writable
 mod Taken
 mod RowSteps
+mod Blocked

@@ -2,6 +2,7 @@
 use Rattle.std.proofs.Common.{◌≡◌, ◌≤◌, ◌<◌, ◌∙◌, ℕ, Bool, true, false, length, List, refl, ap, sym, subst, arith}
 use Rattle.std.specs.Prelude.{if◌then◌else◌, nat_le, slice_index_or}
 use Rattle.std.proofs.lemmas.Bool.Decides.{nat_tests}
+use Rattle.std.proofs.lemmas.List.{length-map}
 use Rattle.iso_chain.proofs.Asks.{has-unit}
 use Rattle.iso_chain.specs.Slots.{slots_of}
 use Rattle.iso_history.proofs.log.Logged.{fits-there}
@@ -45,16 +46,21 @@ slots-left head w c t row done =
     let e = not-full (nat_le 65536 (slots w t)) (first-done (judged_room w t) _ done) in
     grind (arith, nat_tests, e)
 
-module _ (p : Content) (s : Stands p) (c : Conn) (t : TableId) where
-  -- the row's table is there
-  pub table-there : (row : List Value) → row_fits p.head t row ≡ true → t.0 < length p.chain.tables
-  unfolding TablesThere
-  table-there row fits =
-      let there = fits-there p.head t row fits in
-      let wide = (sound-of s).wide in
-      let known = s.parts.chain.slots.wide in
-      omega (arith, there, wide, known)
+-- the row's table is there
+table-there : (p : Content) (s : Stands p) (t : TableId) (row : List Value) → row_fits p.head t row ≡ true → t.0 < length p.chain.tables
+unfolding TablesThere
+table-there p s t row fits =
+    let there = fits-there p.head t row fits in
+    let wide = (sound-of s).wide in
+    let known = s.parts.chain.slots.wide in
+    omega (arith, there, wide, known)
 
+-- as the code sees the tables
+pub table-here : (p : Parts) (t : TableId) (row : List Value) → StandsFor p → row_fits p.head t row ≡ true → t.0 < length p.tables
+table-here p t row s fits =
+    subst (λ (n : ℕ). t.0 < n) (length-map p.tables (λ t. t.items)) (table-there (content_of p) s.stands t row fits)
+
+module _ (p : Content) (s : Stands p) (c : Conn) (t : TableId) where
   pub may-record : (row : List Value) → c.0 < length p.head.conns → phase (world p.head p.history) c ≡ Running → row_fits p.head t row ≡ true
       → MayRecord p.chain c t
   may-record row lt runs fits =
@@ -63,7 +69,7 @@ module _ (p : Content) (s : Stands p) (c : Conn) (t : TableId) where
         conn = work-there s c lt;
         has_unit = has-unit (world p.head p.history) p.chain c (unit_of (world p.head p.history) c) s.parts.chain (work-there s c lt) (unit-of s c runs);
         few = omega (arith, few);
-        table = table-there row fits;
+        table = table-there p s t row fits;
       }
 
   -- a slot more

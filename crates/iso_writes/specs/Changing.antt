@@ -11,6 +11,7 @@ use Rattle.iso_history.specs.World.{World}
 use Rattle.iso_history.specs.declared.entry.Act.{Act}
 use Rattle.iso_history.specs.declared.entry.Act.TheVariants.{Delete, Insert, Update}
 use Rattle.iso_locklist.specs.declared.places.Asking.{Asking}
+use Rattle.iso_locks.specs.declared.locking.Answer.{Answer}
 use Rattle.iso_modes.specs.declared.Mode.TheVariants.{S, X}
 use Rattle.iso_queue.specs.Locks.{is_covered}
 use Rattle.iso_state.specs.Stands.{Content}
@@ -20,6 +21,7 @@ use Rattle.iso_types.specs.Ids.{table_eq}
 use Rattle.iso_types.specs.declared.head.Head.{Head}
 use Rattle.iso_types.specs.declared.value.Conn.{Conn}
 use Rattle.iso_types.specs.declared.value.IndexId.{IndexId}
+use Rattle.iso_types.specs.declared.value.Name.{Name}
 use Rattle.iso_types.specs.declared.value.Name.TheVariants.{Key, Row}
 use Rattle.iso_types.specs.declared.value.Rid.{Rid}
 use Rattle.iso_types.specs.declared.value.TableId.{TableId}
@@ -27,6 +29,8 @@ use Rattle.iso_types.specs.declared.value.Value.{Value}
 use Rattle.iso_uow.specs.Book.{debt_of, work_at}
 use Rattle.iso_writes.specs.declared.changing.Into.{Into}
 use Rattle.iso_writes.specs.declared.changing.Into.TheVariants.{NewSlot, Slot}
+use Rattle.iso_writes.specs.declared.coming.Written.{Written}
+use Rattle.iso_writes.specs.declared.coming.Written.TheVariants.{Blocked, Escalates, Refused, TimedOut}
 
 -- the history's room as it was, and the log's for all that the open units owe with the undo of the change
 pub record LeavesRoom (old new : Parts) : Type 0 where
@@ -109,3 +113,13 @@ without_added true p k q = record p { entries = slice_set p.entries k (without_p
 abbrev pub written_at : Content → Conn → Into → TableId → Rid → List Value → ℕ → Content
 written_at p c into t r row k =
     record p { chain = with_row into p.chain c t r row; entries = with_keys p.head t r row (length p.head.indexes - k) k p.entries }
+
+-- ---- a blocked write
+
+-- what it answers, by what its lock came to
+abbrev pub blocked_by_name : Answer → Name → Written
+blocked_by_name Answer.Done n = Blocked n
+blocked_by_name Answer.Queued n = Blocked n
+blocked_by_name Answer.TimedOut n = TimedOut
+blocked_by_name (Answer.Escalates t) n = Escalates t
+blocked_by_name (Answer.Refused code) n = Refused code

@@ -3,6 +3,7 @@
 
 mod changing;
 mod coming;
+mod hindered;
 mod indexes;
 mod judging;
 mod keying;

@@ -1,6 +1,5 @@
 use Rattle.std.proofs.Common.{◌≡◌, ◌<◌, ◌+◌, ◌∙◌, ℕ, List, Option, ap, length, refl, sym, subst, true}
 use Rattle.std.specs.List.{cons_option}
-use Rattle.std.proofs.lemmas.List.{length-map}
 use Rattle.iso_history.specs.After.{world}
 use Rattle.iso_history.specs.Legal.{ByAgent}
 use Rattle.iso_history.specs.Makers.{by_agent}
@@ -17,7 +16,7 @@ use Rattle.iso_types.specs.declared.desk.Phase.TheVariants.{Running}
 use Rattle.iso_types.specs.declared.value.Value.{Value}
 use Rattle.iso_writes.proofs.ChangeSteps.{change-full}
 use Rattle.iso_writes.proofs.RowSteps.{AreTaken, idle-of, indexes-there, insert-new, insert-place, relocked-place}
-use Rattle.iso_writes.proofs.Writable.{may-record, table-there}
+use Rattle.iso_writes.proofs.Writable.{may-record, table-here}
 use Rattle.iso_writes.specs.Changing.{key_asks, row_ask}
 use Rattle.iso_writes.proofs.writing.make_insert.Goals as goal
 
@@ -30,10 +29,8 @@ returns-in_err-make_room-clause-full c =
 
 pub next_slot-rid-requires-clause-table : goal.next_slot-rid-requires-clause-table
 next_slot-rid-requires-clause-table c =
-    let p = c.make_room.new.parts in
-    let s = c.in_ok-make_room.ensures.stands in
-    let fits = subst (λ (x : Content). row_fits x.head c.args.table c.args.row.now ≡ true) (sym c.in_ok-make_room.ensures.same) c.requires.row in
-    subst (λ (n : ℕ). c.args.table.0 < n) (length-map p.tables (λ t. t.items)) (table-there (content_of p) s.stands c.args.conn c.args.table c.args.row.now fits)
+    table-here c.make_room.new.parts c.args.table c.args.row.now c.in_ok-make_room.ensures.stands
+    (subst (λ (x : Content). row_fits x.head c.args.table c.args.row.now ≡ true) (sym c.in_ok-make_room.ensures.same) c.requires.row)
 
 pub write_locked-requires-clause-indexes : goal.write_locked-requires-clause-indexes
 write_locked-requires-clause-indexes c = indexes-there c.make_room.new.parts c.in_ok-make_room.ensures.stands
