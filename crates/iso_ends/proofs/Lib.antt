@@ -5,3 +5,4 @@ pub mod Undoes
 pub mod Marking
 pub mod Closings
 pub mod Halts
+pub mod StaleReads
