@@ -6,3 +6,5 @@ pub mod Marking
 pub mod Closings
 pub mod Halts
 pub mod StaleReads
+pub mod PurgeWalks
+pub mod PurgeSteps

@@ -1,8 +1,8 @@
 -- What a slot and the lock list tell of a pair: whether it is left behind, and whether its key's name is in use.
-use Rattle.std.proofs.Common.{◌≡◌, ℕ, Bool, true, false, not, ◌&&◌, ◌||◌, List, [], ◌∷◌, map, filter, refl, ap, sym, subst, ◌∙◌, slice_get, slice_index_or, Some, None, Option}
+use Rattle.std.proofs.Common.{◌≡◌, ℕ, Bool, true, false, not, ◌&&◌, ◌||◌, List, [], ◌∷◌, map, filter, refl, ap, sym, ◌∙◌, slice_get, slice_index_or, Some, None, Option}
 use Rattle.std.specs.List.{list_any}
 use Rattle.std.specs.Option.{option_map_or}
-use Rattle.std.specs.Prelude.{zero, suc, is_none, is_some}
+use Rattle.std.specs.Prelude.{zero, suc}
 use Rattle.iso_chain.specs.Slots.{SlotStands, slot_in, slots_of}
 use Rattle.iso_ends.specs.Purges.{has_key, is_left}
 use Rattle.iso_history.proofs.phantoms.GapStarts.{keyed-world}
@@ -72,7 +72,7 @@ left-by s column key (v ∷ vs) st o = go v.pending refl v.row refl
   where
     go : (b : Bool) → v.pending ≡ b → (r : Option (List Value)) → v.row ≡ r
         → is_left s column key
-            ≡ (not (is_pending (v ∷ vs)) && not (option_map_or (λ row. has_key row column key) (committed (v ∷ vs)) false))
+        ≡ (not (is_pending (v ∷ vs)) && not (option_map_or (λ row. has_key row column key) (committed (v ∷ vs)) false))
     go true p r e = let h : s.head ≡ Some v.number = rw p at st.head in rw (h, p) refl
     go false p None e =
         let h : s.head ≡ None = rw p at st.head in
@@ -94,7 +94,7 @@ row-by head i d key (Some row) e = rw e refl
 -- the slot of a pair says whether it is left behind
 pub stale-is : (p : Content) (s : Stands p) (i : IndexId) (d : IndexDef) (t : TableId) (key : Value) (r : Rid) → slice_get p.head.indexes i.0 ≡ Some d
     → is_left (slot_in p.chain.tables t r) d.column key
-        ≡ (not (is_pending (versions (world p.head p.history) t r)) && not (row_has p.head i key (committed (versions (world p.head p.history) t r))))
+    ≡ (not (is_pending (versions (world p.head p.history) t r)) && not (row_has p.head i key (committed (versions (world p.head p.history) t r))))
 unfolding VersionsLayered
 stale-is p s i d t key r e =
     let w = world p.head p.history in
@@ -105,7 +105,7 @@ stale-is p s i d t key r e =
 pub stale-found : (p : Content) (s : Stands p) (i : IndexId) (d : IndexDef) (t : TableId) (key : Value) (r : Rid) (x : Slot) → slice_get p.head.indexes i.0 ≡ Some d
     → Some x ≡ slice_get (slots_of p.chain.tables t) r.0
     → is_left x d.column key
-        ≡ (not (is_pending (versions (world p.head p.history) t r)) && not (row_has p.head i key (committed (versions (world p.head p.history) t r))))
+    ≡ (not (is_pending (versions (world p.head p.history) t r)) && not (row_has p.head i key (committed (versions (world p.head p.history) t r))))
 stale-found p s i d t key r x e there =
     ap (λ (z : Slot). is_left z d.column key) (sym (get-is (slots_of p.chain.tables t) r.0 no_slot x there)) ∙ stale-is p s i d t key r e
 
