@@ -31,6 +31,7 @@ use Rattle.iso_state.specs.Changes.{repaced, stepped}
 use Rattle.iso_state.specs.Stands.{Content, HasPlace, IsDeskOf, Stands, StandsFor, content_of, desk_at, world_of}
 use Rattle.iso_state.specs.Steps.{IsReady, Spends, is_past}
 use Rattle.iso_state.specs.declared.parts.Parts.{Parts}
+use Rattle.iso_pace.specs.Answers.{MayTakeLine}
 use Rattle.iso_pace.proofs.Begins.{first-later, no-marks}
 use Rattle.iso_pace.proofs.Stills.{may-take}
 
@@ -46,13 +47,13 @@ book-is b n works e f =
 -- what the step of a Dispatch asks
 pub record MayBegin (x : Content) (c : Conn) : Type 0 where
   pub free : (world x.head x.history).pace.finished ≡ false
-  pub plain : length x.head.indexes ≡ 0
+  pub may : MayTakeLine x.head (world x.head x.history)
   pub going : (world x.head x.history).pace.stopped ≡ false
   pub within : c.0 < length x.head.conns
   pub idle : phase (world x.head x.history) c ≡ Idle
 
 begin-by : (x : Content) (line : ℕ) (c : Conn) → MayBegin x c → ByDispatcher x.head (world x.head x.history) (Dispatch line c)
-begin-by x line c m = (conn-is x.head c m.within, m.idle, may-take x.head (world x.head x.history) m.plain m.going)
+begin-by x line c m = (conn-is x.head c m.within, m.idle, may-take x.head (world x.head x.history) m.may m.going)
 
 -- it is full exactly where it is past the limit, by what it adds
 pub begin-full : (x : Content) (line : ℕ) (c : Conn) (more : ℕ) → Stands x → MayBegin x c

@@ -36,6 +36,7 @@ use Rattle.iso_state.specs.Changes.{repaced, stepped}
 use Rattle.iso_state.specs.Stands.{IsDeskOf, StandsFor, content_of, desk_at, world_of}
 use Rattle.iso_state.specs.Steps.{Spends}
 use Rattle.iso_state.specs.declared.parts.Parts.{Parts}
+use Rattle.iso_pace.specs.Answers.{MayTakeLine}
 use Rattle.iso_pace.proofs.Stills.{may-take}
 
 -- an entry of the dispatcher by which the connection's wait ends: it has to roll back, for this reason
@@ -119,13 +120,13 @@ module _ (p q : Parts) (a : Act) (c : Conn) (r : ℕ) (s : StandsFor p) (lt : c.
       }))
 
 -- a line EXPIRE may end a wait in quiet
-pub may-expire : (p : Parts) (line : ℕ) (c : Conn) → (world_of p).pace.finished ≡ false → length p.head.indexes ≡ 0
+pub may-expire : (p : Parts) (line : ℕ) (c : Conn) → (world_of p).pace.finished ≡ false → MayTakeLine p.head (world_of p)
     → (world_of p).pace.stopped ≡ false → c.0 < length p.head.conns → phase (world_of p) c ≡ Phase.Waiting → is_quiet p.head (world_of p) ≡ true
     → Allowed p.head (world_of p) (by_dispatcher (Expire line c true))
-may-expire p line c free plain going lt waits quiet = (
+may-expire p line c free may going lt waits quiet = (
   is-open (world_of p) free,
   refl,
-  (conn-is p.head c lt, quiet, may-take p.head (world_of p) plain going, ap (λ (x : Phase). is_phase x Phase.Waiting) (sym waits)),
+  (conn-is p.head c lt, quiet, may-take p.head (world_of p) may going, ap (λ (x : Phase). is_phase x Phase.Waiting) (sym waits)),
 )
 
 pub expire-ends : (head : Head) (w : World) (line : ℕ) (c : Conn) → EndsWait head w (Expire line c true) c 68

@@ -1,6 +1,6 @@
 -- The parts after an entry of the dispatcher that changes nothing but the history.
 use Rattle.std.proofs.Common.{◌≡◌, inl, ℕ, Bool, true, false, not, length, refl, ap, sym, subst, ◌∙◌, arith, List}
-use Rattle.std.specs.Prelude.{None, ◌||◌, ◌&&◌}
+use Rattle.std.specs.Prelude.{is_none, ◌||◌, ◌&&◌}
 use Rattle.iso_chain.proofs.Units.{kept-chained}
 use Rattle.iso_history.proofs.limits.Others.{same-at}
 use Rattle.iso_history.specs.After.{after, world}
@@ -26,20 +26,16 @@ use Rattle.iso_state.specs.Changes.{noted, repaced}
 use Rattle.iso_state.specs.Stands.{Content, HasPlace, StandsFor, content_of, desk_at, world_of}
 use Rattle.iso_state.specs.Steps.{IsReady, Spends, is_past}
 use Rattle.iso_state.specs.declared.parts.Parts.{Parts}
+use Rattle.iso_pace.specs.Answers.{MayTakeLine}
 
--- without an index nothing is purgeable, so a line may be taken as long as nobody stopped
-pub may-take : (head : Head) (w : World) → length head.indexes ≡ 0 → w.pace.stopped ≡ false → may_take head w ≡ true
-may-take head w plain going = rw (none, going) any
+-- a line that may be tried may be taken as long as nobody stopped
+pub may-take : (head : Head) (w : World) → MayTakeLine head w → w.pace.stopped ≡ false → may_take head w ≡ true
+may-take head w may going =
+    go w.pace.stopped (w.pace.purged || is_none (least_purgeable head w)) going may
   where
-    none : least_purgeable head w ≡ None
-    none = rw plain refl
-
-    any : (not false && (w.pace.purged || true)) ≡ true
-    any = go w.pace.purged
-      where
-        go : (b : Bool) → (b || true) ≡ true
-        go true = refl
-        go false = refl
+    go : (s b : Bool) → s ≡ false → (s || b) ≡ true → (not s && b) ≡ true
+    go true b e m = absurd (cc)
+    go false b e m = m
 
 -- an entry of the dispatcher that changes no more than what it has done
 pub record IsStill (head : Head) (w : World) (a : Act) : Type 0 where

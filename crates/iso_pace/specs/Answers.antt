@@ -1,6 +1,7 @@
 -- What the steps of the dispatcher answer.
 use Rattle.std.specs.Option.{option_map_or}
-use Rattle.std.specs.Prelude.{Bool, ℕ, true, false, ◌||◌, List, [], ◌∷◌, if◌then◌else◌, Option, Some, None}
+use Rattle.std.specs.Prelude.{◌≡◌, Bool, ℕ, true, false, ◌||◌, List, [], ◌∷◌, if◌then◌else◌, is_none, Option, Some, None}
+use Rattle.iso_history.specs.Entries.{least_purgeable}
 use Rattle.iso_history.specs.Makers.{by_dispatcher}
 use Rattle.iso_history.specs.Outcomes.{statement_step}
 use Rattle.iso_history.specs.declared.entry.Act.{Act}
@@ -16,6 +17,10 @@ use Rattle.iso_pace.specs.declared.lines.Paced.TheVariants.{Busy, Done, NoEffect
 use Rattle.iso_types.specs.declared.desk.Phase.{Phase}
 use Rattle.iso_types.specs.declared.head.Head.{Head}
 use Rattle.iso_types.specs.declared.value.Conn.{Conn}
+
+-- a Stopped stands, or no pair is purgeable, or the dispatcher's last entry is a Purge
+abbrev pub MayTakeLine : Head → World → Type 0
+MayTakeLine head w = (w.pace.stopped || (w.pace.purged || is_none (least_purgeable head w))) ≡ true
 
 -- the line was taken: it has its entry
 abbrev pub is_taken : Paced → Bool

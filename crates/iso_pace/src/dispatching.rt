@@ -10,7 +10,7 @@ ghost use Rattle.iso_history.specs.declared.entry.Act.TheVariants as Acts;
 ghost use Rattle.iso_state.specs.Changes.{repaced, seated};
 ghost use Rattle.iso_state.specs.Stands.{StandsFor, content_of, desk_at, pace_of, world_of};
 ghost use Rattle.iso_state.specs.Steps.{Spends};
-ghost use Rattle.iso_pace.specs.Answers.{dispatched, line_step, taken};
+ghost use Rattle.iso_pace.specs.Answers.{MayTakeLine, dispatched, line_step, taken};
 ghost use Rattle.iso_types.specs.declared.desk.Phase.TheVariants as Phases;
 
 use crate::closing::{has_unit, is_idle};
@@ -48,7 +48,7 @@ fn run(parts: &mut Parts, line: u32, conn: Conn)
 fn resume(parts: &mut Parts, line: u32, conn: Conn) -> Result<(), StepFault>
     requires stands { StandsFor parts.old }
     requires open { (world_of parts.old).pace.finished ≡ false }
-    requires plain { length parts.old.head.indexes ≡ 0 } // keys come next
+    requires may { MayTakeLine parts.old.head (world_of parts.old) }
     requires going { (world_of parts.old).pace.stopped ≡ false }
     requires conn { conn.0 < length parts.old.head.conns }
     requires idle { phase (world_of parts.old) conn ≡ Phases.Idle }
@@ -68,7 +68,7 @@ fn resume(parts: &mut Parts, line: u32, conn: Conn) -> Result<(), StepFault>
 fn begin(parts: &mut Parts, line: u32, conn: Conn) -> Result<(), StepFault>
     requires stands { StandsFor parts.old }
     requires open { (world_of parts.old).pace.finished ≡ false }
-    requires plain { length parts.old.head.indexes ≡ 0 } // keys come next
+    requires may { MayTakeLine parts.old.head (world_of parts.old) }
     requires going { (world_of parts.old).pace.stopped ≡ false }
     requires conn { conn.0 < length parts.old.head.conns }
     requires idle { phase (world_of parts.old) conn ≡ Phases.Idle }
@@ -90,7 +90,7 @@ fn begin(parts: &mut Parts, line: u32, conn: Conn) -> Result<(), StepFault>
 fn start(parts: &mut Parts, line: u32, conn: Conn) -> Result<(), StepFault>
     requires stands { StandsFor parts.old }
     requires open { (world_of parts.old).pace.finished ≡ false }
-    requires plain { length parts.old.head.indexes ≡ 0 } // keys come next
+    requires may { MayTakeLine parts.old.head (world_of parts.old) }
     requires going { (world_of parts.old).pace.stopped ≡ false }
     requires conn { conn.0 < length parts.old.head.conns }
     requires idle { phase (world_of parts.old) conn ≡ Phases.Idle }
@@ -131,7 +131,7 @@ fn is_passed_over(parts: &Parts, conn: Conn, free: bool) -> bool
 pub fn dispatch(parts: &mut Parts, line: u32, conn: Conn, free: bool) -> Result<Paced, StepFault>
     requires stands { StandsFor parts.old }
     requires open { (world_of parts.old).pace.finished ≡ false }
-    requires plain { length parts.old.head.indexes ≡ 0 } // keys come next
+    requires may { MayTakeLine parts.old.head (world_of parts.old) }
     requires conn { conn.0 < length parts.old.head.conns }
     ensures stands { StandsFor parts.new }
     ensures head { parts.new.head ≡ parts.old.head }

@@ -10,7 +10,7 @@ ghost use Rattle.iso_queue.specs.Snapshots.{snapshot as listed};
 ghost use Rattle.iso_state.specs.Stands.{StandsFor, content_of, pace_of, world_of};
 ghost use Rattle.iso_state.specs.Changes.{noted, repaced};
 ghost use Rattle.iso_state.specs.Steps.{Spends};
-ghost use Rattle.iso_pace.specs.Answers.{expired, is_taken, shown};
+ghost use Rattle.iso_pace.specs.Answers.{MayTakeLine, expired, is_taken, shown};
 ghost use Rattle.iso_types.specs.declared.desk.Phase.TheVariants as Phases;
 
 use crate::phases::waits;
@@ -54,7 +54,7 @@ fn mark(parts: &mut Parts, entry: Entry)
 pub(crate) fn pass_over(parts: &mut Parts, line: u32, conn: Conn) -> Result<(), StepFault>
     requires stands { StandsFor parts.old }
     requires open { (world_of parts.old).pace.finished ≡ false }
-    requires plain { length parts.old.head.indexes ≡ 0 } // keys come next
+    requires may { MayTakeLine parts.old.head (world_of parts.old) }
     requires going { (world_of parts.old).pace.stopped ≡ false }
     requires conn { conn.0 < length parts.old.head.conns }
     requires busy { is_busy parts.old.head (world_of parts.old) conn ≡ true }
@@ -73,7 +73,7 @@ pub(crate) fn pass_over(parts: &mut Parts, line: u32, conn: Conn) -> Result<(), 
 fn expire_none(parts: &mut Parts, line: u32, conn: Conn) -> Result<(), StepFault>
     requires stands { StandsFor parts.old }
     requires open { (world_of parts.old).pace.finished ≡ false }
-    requires plain { length parts.old.head.indexes ≡ 0 } // keys come next
+    requires may { MayTakeLine parts.old.head (world_of parts.old) }
     requires going { (world_of parts.old).pace.stopped ≡ false }
     requires conn { conn.0 < length parts.old.head.conns }
     requires quiet { is_quiet parts.old.head (world_of parts.old) ≡ true }
@@ -100,7 +100,7 @@ fn expire_none(parts: &mut Parts, line: u32, conn: Conn) -> Result<(), StepFault
 fn expire_wait(parts: &mut Parts, line: u32, conn: Conn)
     requires stands { StandsFor parts.old }
     requires open { (world_of parts.old).pace.finished ≡ false }
-    requires plain { length parts.old.head.indexes ≡ 0 } // keys come next
+    requires may { MayTakeLine parts.old.head (world_of parts.old) }
     requires going { (world_of parts.old).pace.stopped ≡ false }
     requires conn { conn.0 < length parts.old.head.conns }
     requires quiet { is_quiet parts.old.head (world_of parts.old) ≡ true }
@@ -133,7 +133,7 @@ fn expire_wait(parts: &mut Parts, line: u32, conn: Conn)
 pub fn expire(parts: &mut Parts, line: u32, conn: Conn) -> Result<Paced, StepFault>
     requires stands { StandsFor parts.old }
     requires open { (world_of parts.old).pace.finished ≡ false }
-    requires plain { length parts.old.head.indexes ≡ 0 } // keys come next
+    requires may { MayTakeLine parts.old.head (world_of parts.old) }
     requires conn { conn.0 < length parts.old.head.conns }
     ensures stands { StandsFor parts.new }
     ensures head { parts.new.head ≡ parts.old.head }
@@ -173,7 +173,7 @@ fn list(parts: &Parts) -> Result<Items<LockLine>, StepFault>
 fn show(parts: &mut Parts, line: u32, locks: Items<LockLine>) -> Result<(), StepFault>
     requires stands { StandsFor parts.old }
     requires open { (world_of parts.old).pace.finished ≡ false }
-    requires plain { length parts.old.head.indexes ≡ 0 } // keys come next
+    requires may { MayTakeLine parts.old.head (world_of parts.old) }
     requires going { (world_of parts.old).pace.stopped ≡ false }
     requires quiet { is_quiet parts.old.head (world_of parts.old) ≡ true }
     requires locks { locks ≡ listed parts.old.head (world_of parts.old).holds (world_of parts.old).waits }
@@ -194,7 +194,7 @@ fn show(parts: &mut Parts, line: u32, locks: Items<LockLine>) -> Result<(), Step
 pub fn snapshot(parts: &mut Parts, line: u32) -> Result<Paced, StepFault>
     requires stands { StandsFor parts.old }
     requires open { (world_of parts.old).pace.finished ≡ false }
-    requires plain { length parts.old.head.indexes ≡ 0 } // keys come next
+    requires may { MayTakeLine parts.old.head (world_of parts.old) }
     ensures stands { StandsFor parts.new }
     ensures head { parts.new.head ≡ parts.old.head }
     ensures answer { IfOk result (λ a. a ≡ shown parts.old.head (world_of parts.old)) }

@@ -12,7 +12,7 @@ pub overflow_sub-parts : goal.overflow_sub-parts
 overflow_sub-parts c =
     let p = c.args.parts.now in
     wait-covers p p (Expire c.args.line c.args.conn true) c.args.conn 68 c.requires.stands c.requires.conn c.requires.waits
-    (may-expire p c.args.line c.args.conn c.requires.open c.requires.plain c.requires.going c.requires.conn c.requires.waits c.requires.quiet)
+    (may-expire p c.args.line c.args.conn c.requires.open c.requires.may c.requires.going c.requires.conn c.requires.waits c.requires.quiet)
     (expire-ends p.head (world_of p) c.args.line c.args.conn)
 
 pub returns-clause-stands : goal.returns-clause-stands
@@ -21,7 +21,7 @@ returns-clause-stands c =
     let l = c.cancel.new.self in
     let x : Content = record (content_of p) { locks = l; reserved = p.reserved - 1; pace = record (pace_of p.pace) { purged = false } } in
     wait-place p c.move_to.new.parts (Expire c.args.line c.args.conn true) c.args.conn 68 c.requires.stands c.requires.conn c.requires.waits
-    (may-expire p c.args.line c.args.conn c.requires.open c.requires.plain c.requires.going c.requires.conn c.requires.waits c.requires.quiet)
+    (may-expire p c.args.line c.args.conn c.requires.open c.requires.may c.requires.going c.requires.conn c.requires.waits c.requires.quiet)
     (expire-ends p.head (world_of p) c.args.line c.args.conn) l c.move_to.ensures.spends
     (c.cancel.ensures.lists (world_of p).holds (world_of p).waits c.requires.stands.parts.locks) c.cancel.ensures.limits
     (c.move_to.ensures.wrote

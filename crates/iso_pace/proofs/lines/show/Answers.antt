@@ -19,7 +19,7 @@ returns-clause-stands c =
     let ls = snapshot o.head (world_of o).holds (world_of o).waits in
     made-still o p c.mark.new.parts (Snapshot c.args.line ls) c.in_ok-make_room.ensures.stands c.in_ok-make_room.ensures.same c.in_ok-make_room.ensures.ready
     c.mark.ensures.spends c.requires.open
-    (c.requires.quiet, may-take o.head (world_of o) c.requires.plain c.requires.going, refl)
+    (c.requires.quiet, may-take o.head (world_of o) c.requires.may c.requires.going, refl)
     (snapshot-still o.head (world_of o) c.args.line ls)
     (c.mark.ensures.wrote ∙ ap (λ (e : Entry). repaced (noted (content_of p) e) (record (pace_of p.pace) { purged = false }))
     (c.of_dispatcher.ensures ∙ ap (λ (x : List LockLine). by_dispatcher (Snapshot c.args.line x)) c.requires.locks))
@@ -29,6 +29,6 @@ returns-in_err-make_room-clause-full c =
     let o = c.args.parts.now in
     let ls = snapshot o.head (world_of o).holds (world_of o).waits in
     λ e. still-full o (Snapshot c.args.line ls) c.requires.stands c.requires.open
-    (c.requires.quiet, may-take o.head (world_of o) c.requires.plain c.requires.going, refl)
+    (c.requires.quiet, may-take o.head (world_of o) c.requires.may c.requires.going, refl)
     (snapshot-still o.head (world_of o) c.args.line ls)
     (c.make_room.ensures.full (fault-was _ _ _ _ c.in_err-make_room.was c.from_residual.ensures.1 e))
