@@ -1,13 +1,14 @@
 -- What the dispatcher makes is its first step, and keeps to the order of the lines.
-use Rattle.std.proofs.Common.{◌≡◌, Bool, true, false, List, ◌∷◌, length, refl, sym, ap, subst, ◌∙◌, Option, Some, None, option_map, if◌then◌else◌}
+use Rattle.std.proofs.Common.{◌≡◌, Bool, true, false, List, ◌∷◌, refl, sym, ap, subst, ◌∙◌, Option, Some, None, option_map, if◌then◌else◌}
 use Rattle.std.specs.Option.{option_map_or, option_or}
 use Rattle.std.proofs.lemmas.Bool.{both_ways}
 use Rattle.iso_conduct.specs.Conduct.{stops_for_memory}
-use Rattle.iso_conduct.specs.Pacing.{MayHalt, is_over, line_step, taking}
+use Rattle.iso_conduct.specs.Pacing.{MayHalt, is_over, taking}
 use Rattle.iso_conduct.specs.Schedule.{IsFirst, dispatcher_step, ending_step, first_step}
-use Rattle.iso_director.proofs.Lines.{line-takes, plain-taking, takes-first, takes-paces, takes_line}
-use Rattle.iso_director.specs.Turns.{IsTurn}
+use Rattle.iso_director.proofs.Lines.{due-taking, purge-leaves, purge-paces, takes-first, takes-paces}
+use Rattle.iso_director.specs.Turns.{IsTurn, due_step, takes_line}
 use Rattle.iso_history.specs.Makers.{by_dispatcher}
+use Rattle.iso_history.specs.Paces.{is_purge}
 use Rattle.iso_history.specs.Quiet.{cycle_in}
 use Rattle.iso_history.specs.Stops.{is_full}
 use Rattle.iso_history.specs.World.{World}
@@ -23,6 +24,10 @@ use Rattle.iso_types.specs.declared.value.Conn.{Conn}
 takes-calm : (a : Act) → takes_line a ≡ true → stops_for_memory a ≡ false
 takes-calm (Stopped cause) t = absurd (cc)
 takes-calm _ t = refl
+
+purge-calm : (a : Act) → is_purge a ≡ true → stops_for_memory a ≡ false
+purge-calm (Stopped cause) t = absurd (cc)
+purge-calm _ t = refl
 
 module _ (head : Head) (w : World) (ls : List Line) where
   -- the step after a victim's
@@ -68,20 +73,29 @@ module _ (head : Head) (w : World) (ls : List Line) (open_ : w.pace.finished ≡
   pub turn-victim : (members : List Conn) → cycle_in head w ≡ Some members → IsTurn head w ls ls (Victim members)
   turn-victim members e = record { first = first-is (Victim members) (first-cycle (Some members) e) refl refl; paces = tt; left = refl }
 
-module _ (head : Head) (w : World) (l : Line) (ls : List Line) (open_ : w.pace.finished ≡ false) (plain : length head.indexes ≡ 0)
-    (going : w.pace.stopped ≡ false) (none : cycle_in head w ≡ None) where
-  pub turn-line : (a : Act) → line_step head w l ≡ Some a → is_full head w (by_dispatcher a) ≡ false → IsTurn head w (l ∷ ls) ls a
-  turn-line a e whole =
-      let takes = line-takes head w l a e in
-      let is = plain-taking head w l ls plain going ∙ e in
+module _ (head : Head) (w : World) (l : Line) (ls : List Line) (open_ : w.pace.finished ≡ false) (going : w.pace.stopped ≡ false)
+    (none : cycle_in head w ≡ None) where
+  pub turn-line : (a : Act) → due_step head w l ≡ Some a → takes_line a ≡ true → is_full head w (by_dispatcher a) ≡ false → IsTurn head w (l ∷ ls) ls a
+  turn-line a e takes whole =
+      let is = due-taking head w l ls going ∙ e in
       record {
         first = first-is head w (l ∷ ls) open_ a (first-line head w (l ∷ ls) open_ none a is) whole (takes-calm a takes);
         paces = takes-paces head w l ls a takes is;
         left = takes-first head w l ls a takes;
       }
 
-  pub turn-halt : (cause : Cause) → MayHalt head w (line_step head w l) cause → IsTurn head w (l ∷ ls) (l ∷ ls) (Stopped cause)
+  pub turn-pair : (a : Act) → due_step head w l ≡ Some a → is_purge a ≡ true → is_full head w (by_dispatcher a) ≡ false
+      → IsTurn head w (l ∷ ls) (l ∷ ls) a
+  turn-pair a e purges whole =
+      let is = due-taking head w l ls going ∙ e in
+      record {
+        first = first-is head w (l ∷ ls) open_ a (first-line head w (l ∷ ls) open_ none a is) whole (purge-calm a purges);
+        paces = purge-paces head w l ls a purges is;
+        left = purge-leaves head w (l ∷ ls) a purges;
+      }
+
+  pub turn-halt : (cause : Cause) → MayHalt head w (due_step head w l) cause → IsTurn head w (l ∷ ls) (l ∷ ls) (Stopped cause)
   turn-halt cause may =
       let halts : MayHalt head w (taking head w (l ∷ ls)) cause =
-      subst (λ (o : Option Act). MayHalt head w o cause) (sym (plain-taking head w l ls plain going)) may in
+      subst (λ (o : Option Act). MayHalt head w o cause) (sym (due-taking head w l ls going)) may in
       record { first = halt-is head w (l ∷ ls) open_ none cause halts; paces = halts; left = refl }

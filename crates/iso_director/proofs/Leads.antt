@@ -4,9 +4,8 @@ use Rattle.std.proofs.lemmas.Bool.{both_ways}
 use Rattle.std.proofs.lemmas.List.{append-nil, drop_more}
 use Rattle.std.proofs.Math.ListN.{get_or}
 use Rattle.std.specs.Option.{option_map_or}
-use Rattle.iso_conduct.specs.Pacing.{line_step}
-use Rattle.iso_director.proofs.Firsts.{turn-halt, turn-line, turn-victim}
-use Rattle.iso_director.specs.Turns.{HasLineTaken, HasMade}
+use Rattle.iso_director.proofs.Firsts.{turn-halt, turn-line, turn-pair, turn-victim}
+use Rattle.iso_director.specs.Turns.{HasLineTaken, HasMade, due_step}
 use Rattle.iso_director.specs.declared.director.Led.TheVariants.{Ran}
 use Rattle.iso_director.specs.declared.taking.Taken.TheVariants as taking_of
 use Rattle.iso_history.proofs.limits.Victims.{has_victim}
@@ -60,17 +59,22 @@ module _ (head : Head) (w : World) (ls : List Line) (es fs : List Entry) (open_ 
 -- ---- the next line
 
 module _ (head : Head) (w : World) (lines : List Line) (k : ℕ) (l : Line) (es fs : List Entry) (open_ : w.pace.finished ≡ false)
-    (plain : length head.indexes ≡ 0) (going : w.pace.stopped ≡ false) (none : cycle_in head w ≡ None) (within : k < length lines)
+    (going : w.pace.stopped ≡ false) (none : cycle_in head w ≡ None) (within : k < length lines)
     (is : l ≡ get_or lines k l) where
   left : drop k lines ≡ l ∷ drop (k + 1) lines
   left = drop_more lines k l within ∙ ap (λ (x : Line). x ∷ drop (k + 1) lines) (sym is)
 
-  pub line-made : HasLineTaken head w (line_step head w l) es fs taking_of.Line → HasMade head w (drop k lines) (drop (k + 1) lines) es fs Ran
+  pub line-made : HasLineTaken head w (due_step head w l) es fs taking_of.Line → HasMade head w (drop k lines) (drop (k + 1) lines) es fs Ran
   line-made h =
       subst (λ (ls : List Line). HasMade head w ls (drop (k + 1) lines) es fs Ran) (sym left)
-      (h.0, h.3, turn-line head w l (drop (k + 1) lines) open_ plain going none h.0 h.1 h.2)
+      (h.0, h.4, turn-line head w l (drop (k + 1) lines) open_ going none h.0 h.1 h.2 h.3)
 
-  pub halt-made : HasLineTaken head w (line_step head w l) es fs taking_of.Stop → HasMade head w (drop k lines) (drop k lines) es fs Ran
+  pub pair-made : HasLineTaken head w (due_step head w l) es fs taking_of.Pair → HasMade head w (drop k lines) (drop k lines) es fs Ran
+  pair-made h =
+      subst (λ (ls : List Line). HasMade head w ls ls es fs Ran) (sym left)
+      (h.0, h.4, turn-pair head w l (drop (k + 1) lines) open_ going none h.0 h.1 h.2 h.3)
+
+  pub halt-made : HasLineTaken head w (due_step head w l) es fs taking_of.Stop → HasMade head w (drop k lines) (drop k lines) es fs Ran
   halt-made h =
       subst (λ (ls : List Line). HasMade head w ls ls es fs Ran) (sym left)
-      (Stopped h.0, h.2, turn-halt head w l (drop (k + 1) lines) open_ plain going none h.0 h.1)
+      (Stopped h.0, h.2, turn-halt head w l (drop (k + 1) lines) open_ going none h.0 h.1)

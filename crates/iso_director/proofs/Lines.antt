@@ -1,16 +1,19 @@
 -- The lines of a script, and the step that takes one.
 use Rattle.std.proofs.Common.{◌≡◌, ℕ, ◌<◌, Bool, true, false, ◌||◌, List, ◌∷◌, length, refl, ap, subst, ◌∙◌, Option, Some, None, if◌then◌else◌, is_some}
+use Rattle.std.specs.Prelude.{is_none}
 use Rattle.std.proofs.lemmas.Bool.{and_parts, both_ways}
 use Rattle.std.proofs.Math.ListN.{get_or}
 use Rattle.std.proofs.lemmas.List.Folds.{list_all_at}
 use Rattle.iso_conduct.specs.Conduct.{statement_in}
-use Rattle.iso_conduct.specs.Pacing.{IsLine, MayPace, line_step, lines_after_act, purge_or_line, step_of, taking}
+use Rattle.iso_conduct.specs.Pacing.{IsLine, MayPace, line_step, lines_after_act, purge_of, purge_or_line, step_of, taking}
+use Rattle.iso_director.specs.Turns.{due_step, takes_line}
 use Rattle.iso_history.specs.Entries.{least_purgeable}
+use Rattle.iso_history.specs.Paces.{is_purge}
 use Rattle.iso_history.specs.Phases.{is_phase, phase}
 use Rattle.iso_history.specs.Quiet.{is_busy, is_quiet}
 use Rattle.iso_history.specs.World.{World}
 use Rattle.iso_history.specs.declared.entry.Act.{Act}
-use Rattle.iso_history.specs.declared.entry.Act.TheVariants.{Busy, Dispatch, Expire, Snapshot}
+use Rattle.iso_history.specs.declared.entry.Act.TheVariants.{Busy, Dispatch, Expire, Purge, Snapshot}
 use Rattle.iso_queue.specs.Snapshots.{snapshot}
 use Rattle.iso_script.specs.Sound.{IsSound, is_sound_line, is_sound_what}
 use Rattle.iso_script.specs.declared.script.Line.{Line}
@@ -21,6 +24,10 @@ use Rattle.iso_types.specs.declared.desk.Phase.{Phase}
 use Rattle.iso_types.specs.declared.desk.Phase.TheVariants.{Idle}
 use Rattle.iso_types.specs.declared.head.Head.{Head}
 use Rattle.iso_types.specs.declared.value.Conn.{Conn}
+use Rattle.iso_types.specs.declared.value.IndexId.{IndexId}
+use Rattle.iso_types.specs.declared.value.Rid.{Rid}
+use Rattle.iso_types.specs.declared.value.Value.{Value}
+use Rattle.iso_pace.specs.Answers.{MayTakeLine}
 
 -- ---- a sound line is one of the head's
 
@@ -49,29 +56,48 @@ line-at script k l sound lt is = sound-line script.head l (go (is_sound_line scr
     go true e = ap (is_sound_line script.head) is ∙ e
     go false e = absurd (both_ways _ (list_all_at (is_sound_line script.head) script.lines k l lt e) sound.lines)
 
--- ---- without an index nothing is purged
+-- ---- the step that is due at a line
 
-pub plain-none : (head : Head) (w : World) → length head.indexes ≡ 0 → least_purgeable head w ≡ None
-plain-none head w plain = rw plain refl
+-- it is the one that takes the line, or purges
+pub due-taking : (head : Head) (w : World) (l : Line) (ls : List Line) → w.pace.stopped ≡ false → taking head w (l ∷ ls) ≡ due_step head w l
+due-taking head w l ls going = rw going refl
 
-pub plain-taking : (head : Head) (w : World) (l : Line) (ls : List Line) → length head.indexes ≡ 0 → w.pace.stopped ≡ false
-    → taking head w (l ∷ ls) ≡ line_step head w l
-plain-taking head w l ls plain going = rw going (go w.pace.purged (least_purgeable head w) (plain-none head w plain))
+-- the line's own where it may be taken
+pub due-line : (head : Head) (w : World) (l : Line) → MayTakeLine head w → w.pace.stopped ≡ false → line_step head w l ≡ due_step head w l
+due-line head w l may going = go w.pace.stopped w.pace.purged (least_purgeable head w) going may
   where
-    go : (b : Bool) (o : Option _) → o ≡ None → purge_or_line head w l b o ≡ line_step head w l
-    go true None e = refl
-    go false None e = refl
-    go b (Some p) e = absurd (cc)
+    go : (s b : Bool) (o : Option (IndexId × (Value × Rid))) → s ≡ false → (s || (b || is_none o)) ≡ true
+        → line_step head w l ≡ purge_or_line head w l b o
+    go true b o e m = absurd (cc)
+    go false true (Some p) e m = refl
+    go false true None e m = refl
+    go false false None e m = refl
+    go false false (Some p) e m = absurd (cc)
+
+-- else the purge of the least pair
+pub due-pair : (head : Head) (w : World) (l : Line) (p : IndexId × (Value × Rid)) → w.pace.purged ≡ false → least_purgeable head w ≡ Some p
+    → due_step head w l ≡ Some (purge_of p)
+due-pair head w l p calm least = rw (calm, least) refl
+
+-- a line may be tried after a purge, and where no pair is purgeable
+pub may-purged : (head : Head) (w : World) → w.pace.purged ≡ true → MayTakeLine head w
+may-purged head w e = go w.pace.stopped w.pace.purged (is_none (least_purgeable head w)) e
+  where
+    go : (s b o : Bool) → b ≡ true → (s || (b || o)) ≡ true
+    go true b o e = refl
+    go false true o e = refl
+    go false false o e = absurd (cc)
+
+pub may-none : (head : Head) (w : World) → is_some (least_purgeable head w) ≡ false → MayTakeLine head w
+may-none head w e = go w.pace.stopped w.pace.purged (least_purgeable head w) e
+  where
+    go : (s b : Bool) (o : Option (IndexId × (Value × Rid))) → is_some o ≡ false → (s || (b || is_none o)) ≡ true
+    go true b o e = refl
+    go false true o e = refl
+    go false false None e = refl
+    go false false (Some p) e = absurd (cc)
 
 -- ---- the acts that take a line
-
--- it takes a line
-abbrev pub takes_line : Act → Bool
-takes_line (Dispatch n c) = true
-takes_line (Busy n c) = true
-takes_line (Expire n c ended) = true
-takes_line (Snapshot n locks) = true
-takes_line _ = false
 
 some-is : (p : Act → Bool) (a b : Act) → p a ≡ true → Some a ≡ Some b → p b ≡ true
 some-is p a b h e = let q : a ≡ b = cc in subst (λ (x : Act). p x ≡ true) q h
@@ -110,3 +136,12 @@ module _ (head : Head) (w : World) where
   takes-first l ls (Expire n c ended) t = refl
   takes-first l ls (Snapshot n locks) t = refl
   takes-first l ls a t = absurd (cc)
+
+  -- a purge keeps to the order, too, and leaves all lines
+  pub purge-paces : (l : Line) (ls : List Line) (a : Act) → is_purge a ≡ true → taking head w (l ∷ ls) ≡ Some a → MayPace head w (l ∷ ls) a
+  purge-paces l ls (Purge i key r) t h = h
+  purge-paces l ls a t h = absurd (cc)
+
+  pub purge-leaves : (ls : List Line) (a : Act) → is_purge a ≡ true → lines_after_act ls a ≡ ls
+  purge-leaves ls (Purge i key r) t = refl
+  purge-leaves ls a t = absurd (cc)

@@ -65,11 +65,10 @@ impl Director {
         Director { taken: 0 }
     }
 
-    /// Takes the next line, where its step may be made.
+    /// Takes the next line, where its step may be made, or purges a pair before it.
     fn take_next(&mut self, script: &Script, parts: &mut Parts) -> Led
         requires stands { StandsFor parts.old }
         requires open { (world_of parts.old).pace.finished ≡ false }
-        requires plain { length parts.old.head.indexes ≡ 0 } // keys come next
         requires head { parts.old.head ≡ script.now.head }
         requires sound { IsSound script.now }
         requires going { (world_of parts.old).pace.stopped ≡ false }
@@ -85,6 +84,7 @@ impl Director {
                 self.taken += 1;
                 Led::Ran
             }
+            Taken::Pair => Led::Ran,
             Taken::Stop => Led::Ran,
             Taken::Nothing => Led::Rests,
         }
@@ -94,7 +94,6 @@ impl Director {
     fn go_on(&mut self, script: &Script, parts: &mut Parts) -> Led
         requires stands { StandsFor parts.old }
         requires open { (world_of parts.old).pace.finished ≡ false }
-        requires plain { length parts.old.head.indexes ≡ 0 } // keys come next
         requires head { parts.old.head ≡ script.now.head }
         requires sound { IsSound script.now }
         requires acyclic { cycle_in parts.old.head (world_of parts.old) ≡ None }
@@ -116,7 +115,6 @@ impl Director {
     fn lead(&mut self, script: &Script, parts: &mut Parts) -> Led
         requires stands { StandsFor parts.old }
         requires open { (world_of parts.old).pace.finished ≡ false }
-        requires plain { length parts.old.head.indexes ≡ 0 } // keys come next
         requires head { parts.old.head ≡ script.now.head }
         requires sound { IsSound script.now }
         ensures stands { StandsFor parts.new }
@@ -130,17 +128,17 @@ impl Director {
         self.go_on(script, parts)
     }
 
-    /// Makes the dispatcher's next entry: where connections wait for each other in a circle the choice of a victim; else the
-    /// next line's entry, where it may be taken; where no line is left or somebody stopped, the close of the least idle
-    /// connection once all is quiet, and at last the end of the history. For want of memory, or of room in the history, the
-    /// dispatcher stops in place of a line's entry. `Ran`: one entry is made. `Rests`: it has none to make; `Ended`: the history
-    /// is over; all is as it was then. It looks at no line but the next. A circle is sought at each call, as by `detect`: where
-    /// fewer than two connections wait the phases alone are looked at; else the lock list is asked once for each connection that
-    /// waits, and up to three times more where a line or a close wants quiet. A SNAPSHOT sorts the names of all locks. (This
-    /// project's own.)
+    /// Makes the dispatcher's next entry: where connections wait for each other in a circle the choice of a victim; else, as long
+    /// as a line is left, the purge of a pair that no row has any more, unless its last entry was a purge; else the next line's
+    /// entry, where it may be taken; where no line is left or somebody stopped, the close of the least idle connection once all is
+    /// quiet, and at last the end of the history. For want of memory, or of room in the history, the dispatcher stops in place of
+    /// a purge or a line's entry. `Ran`: one entry is made. `Rests`: it has none to make; `Ended`: the history is over; all is as
+    /// it was then. It looks at no line but the next, and at the pairs of the indexes as `purge` does. A circle is sought at each
+    /// call, as by `detect`: where fewer than two connections wait the phases alone are looked at; else the lock list is asked once
+    /// for each connection that waits, and up to three times more where a line or a close wants quiet. A SNAPSHOT sorts the names
+    /// of all locks. (This project's own.)
     pub fn make(&mut self, script: &Script, parts: &mut Parts) -> Led
         requires stands { StandsFor parts.old }
-        requires plain { length parts.old.head.indexes ≡ 0 } // keys come next
         requires head { parts.old.head ≡ script.now.head }
         requires sound { IsSound script.now }
         requires taken { HasTaken script.now parts.old.history.items self.old.taken }

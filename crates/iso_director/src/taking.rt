@@ -1,24 +1,26 @@
 //! The step by which the dispatcher takes the next line, or stops in its place.
 
-ghost use Rattle.std.specs.Prelude.{◌≡◌, false, true, length, is_some, Some, None, OnErr};
+ghost use Rattle.std.specs.Prelude.{◌≡◌, ◌≤◌, false, true, length, is_some, Some, None, OnErr};
 ghost use Rattle.iso_conduct.specs.Conduct.{statement_in};
 ghost use Rattle.iso_conduct.specs.Pacing.{IsLine, line_step};
-ghost use Rattle.iso_director.specs.Turns.{HasLineTaken, HasTried, lacked};
-ghost use Rattle.iso_pace.specs.Answers.{is_taken as is_done};
+ghost use Rattle.iso_director.specs.Turns.{HasLineTaken, HasTried, due_step, lacked};
+ghost use Rattle.iso_pace.specs.Answers.{MayTakeLine, is_taken as is_done};
 ghost use Rattle.iso_script.specs.declared.script.What.TheVariants as Asks;
 ghost use Rattle.iso_state.specs.Stands.{StandsFor, content_of, world_of};
 
-use iso_ends::stopped;
+use iso_ends::{purge, stopped};
 use iso_history::{Cause, Who};
 use iso_pace::{Paced, dispatch, expire, snapshot};
 use iso_script::{Line, What};
 use iso_state::Parts;
 use iso_types::{Conn, StepFault};
 
-/// What comes of the next line. `Line`: it is taken. `Stop`: the dispatcher stops in its place. `Nothing`: it is not taken yet.
+/// What comes of the next line. `Line`: it is taken. `Pair`: a pair of an index is purged before it. `Stop`: the dispatcher stops
+/// in place of either. `Nothing`: the line is not taken yet.
 #[derive(Clone, Copy, PartialEq, Eq)]
 pub(crate) enum Taken {
     Line,
+    Pair,
     Stop,
     Nothing,
 }
@@ -27,7 +29,7 @@ pub(crate) enum Taken {
 fn take_statement(parts: &mut Parts, line: &Line, conn: Conn) -> Result<Paced, StepFault>
     requires stands { StandsFor parts.old }
     requires open { (world_of parts.old).pace.finished ≡ false }
-    requires plain { length parts.old.head.indexes ≡ 0 } // keys come next
+    requires may { MayTakeLine parts.old.head (world_of parts.old) }
     requires going { (world_of parts.old).pace.stopped ≡ false }
     requires line { IsLine parts.old.head line.now }
     requires asks { is_some (statement_in line.now.what) ≡ true }
@@ -45,7 +47,7 @@ fn take_statement(parts: &mut Parts, line: &Line, conn: Conn) -> Result<Paced, S
 fn take_expire(parts: &mut Parts, line: &Line, conn: Conn) -> Result<Paced, StepFault>
     requires stands { StandsFor parts.old }
     requires open { (world_of parts.old).pace.finished ≡ false }
-    requires plain { length parts.old.head.indexes ≡ 0 } // keys come next
+    requires may { MayTakeLine parts.old.head (world_of parts.old) }
     requires going { (world_of parts.old).pace.stopped ≡ false }
     requires line { IsLine parts.old.head line.now }
     requires asks { line.now.what ≡ Asks.Expire }
@@ -63,7 +65,7 @@ fn take_expire(parts: &mut Parts, line: &Line, conn: Conn) -> Result<Paced, Step
 fn take_snapshot(parts: &mut Parts, line: &Line) -> Result<Paced, StepFault>
     requires stands { StandsFor parts.old }
     requires open { (world_of parts.old).pace.finished ≡ false }
-    requires plain { length parts.old.head.indexes ≡ 0 } // keys come next
+    requires may { MayTakeLine parts.old.head (world_of parts.old) }
     requires going { (world_of parts.old).pace.stopped ≡ false }
     requires line { IsLine parts.old.head line.now }
     requires asks { line.now.what ≡ Asks.Snapshot }
@@ -80,7 +82,7 @@ fn take_snapshot(parts: &mut Parts, line: &Line) -> Result<Paced, StepFault>
 fn take_own(parts: &mut Parts, line: &Line, conn: Conn) -> Result<Paced, StepFault>
     requires stands { StandsFor parts.old }
     requires open { (world_of parts.old).pace.finished ≡ false }
-    requires plain { length parts.old.head.indexes ≡ 0 } // keys come next
+    requires may { MayTakeLine parts.old.head (world_of parts.old) }
     requires going { (world_of parts.old).pace.stopped ≡ false }
     requires line { IsLine parts.old.head line.now }
     requires conn { line.now.conn ≡ Some conn }
@@ -101,7 +103,7 @@ fn take_own(parts: &mut Parts, line: &Line, conn: Conn) -> Result<Paced, StepFau
 fn take_common(parts: &mut Parts, line: &Line) -> Result<Paced, StepFault>
     requires stands { StandsFor parts.old }
     requires open { (world_of parts.old).pace.finished ≡ false }
-    requires plain { length parts.old.head.indexes ≡ 0 } // keys come next
+    requires may { MayTakeLine parts.old.head (world_of parts.old) }
     requires going { (world_of parts.old).pace.stopped ≡ false }
     requires line { IsLine parts.old.head line.now }
     requires conn { line.now.conn ≡ None }
@@ -122,7 +124,7 @@ fn take_common(parts: &mut Parts, line: &Line) -> Result<Paced, StepFault>
 fn try_line(parts: &mut Parts, line: &Line) -> Result<Paced, StepFault>
     requires stands { StandsFor parts.old }
     requires open { (world_of parts.old).pace.finished ≡ false }
-    requires plain { length parts.old.head.indexes ≡ 0 } // keys come next
+    requires may { MayTakeLine parts.old.head (world_of parts.old) }
     requires going { (world_of parts.old).pace.stopped ≡ false }
     requires line { IsLine parts.old.head line.now }
     ensures stands { StandsFor parts.new }
@@ -160,12 +162,12 @@ fn cause_of(fault: StepFault) -> Cause
     }
 }
 
-/// Takes a line, where its step may be made and there is no want of memory nor of room in the history, where the dispatcher
-/// stops in its place. It looks at this line alone, and asks the lock list once for each connection at most.
-pub(crate) fn take(parts: &mut Parts, line: &Line) -> Taken
+/// Takes a line that may be tried, where there is no want of memory nor of room in the history; else the dispatcher stops in
+/// its place.
+fn take_line(parts: &mut Parts, line: &Line) -> Taken
     requires stands { StandsFor parts.old }
     requires open { (world_of parts.old).pace.finished ≡ false }
-    requires plain { length parts.old.head.indexes ≡ 0 } // keys come next
+    requires may { MayTakeLine parts.old.head (world_of parts.old) }
     requires going { (world_of parts.old).pace.stopped ≡ false }
     requires line { IsLine parts.old.head line.now }
     ensures stands { StandsFor parts.new }
@@ -181,6 +183,33 @@ pub(crate) fn take(parts: &mut Parts, line: &Line) -> Taken
                 Taken::Nothing
             }
         }
+        Err(fault) => {
+            stopped(parts, Who::Dispatcher, cause_of(fault));
+            Taken::Stop
+        }
+    }
+}
+
+/// Purges a pair, where one is purgeable and the dispatcher's last entry is no purge; else takes a line, where its step may be
+/// made. Where there is want of memory or of room in the history the dispatcher stops in place of either. It looks at this line
+/// alone, at the pairs of the indexes as `purge` does, and asks the lock list once for each connection at most.
+pub(crate) fn take(parts: &mut Parts, line: &Line) -> Taken
+    requires stands { StandsFor parts.old }
+    requires open { (world_of parts.old).pace.finished ≡ false }
+    requires few { length parts.old.head.indexes ≤ 32 }
+    requires going { (world_of parts.old).pace.stopped ≡ false }
+    requires line { IsLine parts.old.head line.now }
+    ensures stands { StandsFor parts.new }
+    ensures head { parts.new.head ≡ parts.old.head }
+    ensures taken { HasLineTaken parts.old.head (world_of parts.old) (due_step parts.old.head (world_of parts.old) line.now)
+        parts.old.history.items parts.new.history.items result }
+{
+    if parts.pace.purged {
+        return take_line(parts, line);
+    }
+    match purge(parts) {
+        Ok(true) => Taken::Pair,
+        Ok(false) => take_line(parts, line),
         Err(fault) => {
             stopped(parts, Who::Dispatcher, cause_of(fault));
             Taken::Stop
