@@ -196,7 +196,6 @@ fn take_line(parts: &mut Parts, line: &Line) -> Taken
 pub(crate) fn take(parts: &mut Parts, line: &Line) -> Taken
     requires stands { StandsFor parts.old }
     requires open { (world_of parts.old).pace.finished ≡ false }
-    requires few { length parts.old.head.indexes ≤ 32 }
     requires going { (world_of parts.old).pace.stopped ≡ false }
     requires line { IsLine parts.old.head line.now }
     ensures stands { StandsFor parts.new }
