@@ -55,7 +55,7 @@ fn find_slot(parts: &Parts, table: TableId, rid: Rid) -> Option<&Slot>
 }
 
 /// Whether no version of the pair's slot is pending, and its committed row is not there or has another key.
-fn is_stale(parts: &Parts, index: IndexId, def: &IndexDef, pair: &(Value, Rid)) -> bool
+pub(crate) fn is_stale(parts: &Parts, index: IndexId, def: &IndexDef, pair: &(Value, Rid)) -> bool
     requires stands { StandsFor parts.now }
     requires def { slice_get parts.now.head.indexes index.0 ≡ Some def.now }
     ensures { result ≡ (not (is_pending (versions (world_of parts.now) def.now.table pair.now.1))
