@@ -23,7 +23,7 @@ pub fn pairs_stay_fresh()
 {}
 
 /// Where no pair is stale, none is purgeable.
-pub fn fresh_pairs_stay_on()
+pub fn no_fresh_pair_is_purged()
     ensures { (head : Head) (w : World) → any_stale head w ≡ false → (NoneStale head w) × (least_purgeable head w ≡ None) }
 {}
 
