@@ -13,8 +13,10 @@ pub mod Doomed
 pub mod Wants
 pub mod Turning
 pub mod LookStepping
+pub mod BlockedWaits
 pub mod WriteStepping
 pub mod Undoing
 pub mod Quieting
 pub mod Making
 pub mod Dues
+pub mod NextStepping

@@ -1,23 +1,31 @@
 -- What each answer makes of the scan of an open statement.
-use Rattle.std.proofs.Common.{◌≡◌, ◌≤◌, ◌<◌, ◌+◌, ℕ, Bool, true, false, ◌&&◌, List, [], ◌∷◌, ◌++◌, refl, sym, subst, Option, Some, None, arith, length-append, if◌then◌else◌}
-use Rattle.std.proofs.lemmas.Bool.{le-leb, leb-true}
+use Rattle.std.proofs.Common.{◌≡◌, ◌≤◌, ◌<◌, ◌+◌, ℕ, Bool, true, false, ◌&&◌, List, [], ◌∷◌, ◌++◌, refl, subst, Option, Some, None, arith, length, length-append, if◌then◌else◌}
+use Rattle.std.proofs.lemmas.Bool.{le-leb, leb-true, lt-ltb, ltb-true}
 use Rattle.std.specs.List.{list_all}
-use Rattle.std.specs.Prelude.{Ok, Err, Result, nat_le}
-use Rattle.iso_agent.specs.Scans.{IsPlainAt, is_scanned, is_within}
-use Rattle.iso_conduct.specs.Courses.{haul_size}
-use Rattle.iso_conduct.specs.Parts.{Part}
+use Rattle.std.specs.Option.{option_map_or}
+use Rattle.std.specs.Prelude.{Ok, Err, Result, nat_le, nat_lt}
+use Rattle.iso_agent.specs.Scans.{IsSoundPoint, is_scanned, is_walk, is_within}
+use Rattle.iso_conduct.specs.Courses.{haul_size, keyed_within, scan_slot}
+use Rattle.iso_conduct.specs.Parts.{Part, Walk}
 use Rattle.iso_conduct.specs.Parts.Part.{Asks, Changes, EntryLook, Frees, IndexScan, Leaves, Refuses, Replies, RowUpdate, TableScan}
-use Rattle.iso_conduct.specs.Points.{Haul, Point, backed_up, behind, change_part, change_parts, ending, fault_code, found_rows, freeing, frees, hauled, is_kept, kept_with, look_rid, looked, looked_by, opened_out, past_look, projected_by, queued_up, standing_at, told_point}
+use Rattle.iso_conduct.specs.Points.{Haul, Point, backed_up, behind, change_part, change_parts, due_by, ending, fault_code, found_rows, freeing, frees, hauled, is_kept, kept_with, look_rid, looked, looked_by, opened_out, past_look, projected_by, queued_up, standing_at, told_point}
 use Rattle.iso_conduct.specs.Points.Haul.{Found, Given, Number}
+use Rattle.iso_conduct.specs.declared.moves.Move.{Move}
 use Rattle.iso_conduct.specs.declared.moves.Told.{Told}
+use Rattle.iso_history.proofs.phantoms.KeysAfter.{table-of-test}
 use Rattle.iso_history.specs.Versions.{slots}
 use Rattle.iso_history.specs.World.{World}
 use Rattle.iso_history.specs.declared.entry.Want.{Want}
 use Rattle.iso_predicate.specs.Assigned.{Fault, assigned}
+use Rattle.iso_sql.specs.Sound.{columns_of}
 use Rattle.iso_sql.specs.declared.statement.Statement.{Statement}
 use Rattle.iso_sql.specs.declared.statement.Statement.TheVariants as st
+use Rattle.iso_types.specs.Head.{table_of_index}
+use Rattle.iso_types.specs.Ids.{table_eq}
 use Rattle.iso_types.specs.declared.head.Column.{Column}
 use Rattle.iso_types.specs.declared.head.Head.{Head}
+use Rattle.iso_types.specs.declared.head.Range.{Range}
+use Rattle.iso_types.specs.declared.value.IndexId.{IndexId}
 use Rattle.iso_types.specs.declared.value.Rid.{Rid}
 use Rattle.iso_types.specs.declared.value.TableId.{TableId}
 use Rattle.iso_types.specs.declared.value.Value.{Value}
@@ -40,12 +48,12 @@ module _ (q : Part → Bool) where
   all-behind [] e = e
   all-behind (x ∷ xs) e = (and-of (q x) (list_all q xs) e).1
 
-module _ (w : World) (s : Statement) where
+module _ (head : Head) (w : World) (s : Statement) where
   abbrev Within : List Part → Type 0
-  Within ps = list_all (is_within w s) ps ≡ true
+  Within ps = list_all (is_within head w s) ps ≡ true
 
   rest-within : (x : Part) (ps : List Part) → Within (x ∷ ps) → Within ps
-  rest-within x ps e = (and-of (is_within w s x) (list_all (is_within w s) ps) e).1
+  rest-within x ps e = (and-of (is_within head w s x) (list_all (is_within head w s) ps) e).1
 
   queued-within : (ps : List Part) → Within ps → Within (queued_up ps)
   queued-within [] e = refl
@@ -60,16 +68,24 @@ module _ (w : World) (s : Statement) where
 
   backed-within : (mark : Option ℕ) (ps : List Part) → Within ps → Within (backed_up mark ps)
   backed-within None ps e = refl
-  backed-within (Some floor) ps e = all-behind (is_within w s) ps e
+  backed-within (Some floor) ps e = all-behind (is_within head w s) ps e
 
-  standing-within : (key : Value) (r : Rid) (ps : List Part) → Within ps → Within (standing_at key r ps)
-  standing-within key r (IndexScan walk at ∷ ps) e = absurd (cc)
-  standing-within key r ps e = e
+  -- the entry where a scan comes to stand is of a slot
+  abbrev pub FindsSlot : Rid → List Part → Type 0
+  FindsSlot r (IndexScan k at ∷ ps) = r.0 < slots w k.table
+  FindsSlot r _ = Unit {0}
 
-  change-within : (z : Statement) (columns : List Column) (t : TableId) (k : Rid × List Value) → is_within w s (change_part z columns t k) ≡ true
+  standing-within : (key : Value) (r : Rid) (ps : List Part) → FindsSlot r ps → Within ps → Within (standing_at key r ps)
+  standing-within key r (IndexScan k at ∷ ps) there e =
+      let a = and-of (is_walk head s k) (list_all (is_within head w s) ps) e in
+      and-to (is_walk head s k && nat_lt r.0 (slots w k.table)) (list_all (is_within head w s) ps)
+      (and-to (is_walk head s k) (nat_lt r.0 (slots w k.table)) a.0 (lt-ltb r.0 (slots w k.table) there)) a.1
+  standing-within key r ps there e = e
+
+  change-within : (z : Statement) (columns : List Column) (t : TableId) (k : Rid × List Value) → is_within head w s (change_part z columns t k) ≡ true
   change-within (st.Update u sets cond level) columns t k = go (assigned columns sets.list k.1)
     where
-      go : (x : Result (List Value) Fault) → is_within w s (elim x [ Ok row ↦ RowUpdate t k.0 row | Err fault ↦ Refuses (fault_code fault) ]) ≡ true
+      go : (x : Result (List Value) Fault) → is_within head w s (elim x [ Ok row ↦ RowUpdate t k.0 row | Err fault ↦ Refuses (fault_code fault) ]) ≡ true
       go (Ok row) = refl
       go (Err fault) = refl
   change-within z columns t k = refl
@@ -77,43 +93,51 @@ module _ (w : World) (s : Statement) where
   changes-within : (z : Statement) (columns : List Column) (t : TableId) (ks : List (Rid × List Value)) → Within (change_parts z columns t ks)
   changes-within z columns t [] = refl
   changes-within z columns t (k ∷ ks) =
-      and-to (is_within w s (change_part z columns t k)) (list_all (is_within w s) (change_parts z columns t ks)) (change-within z columns t k)
+      and-to (is_within head w s (change_part z columns t k)) (list_all (is_within head w s) (change_parts z columns t ks)) (change-within z columns t k)
       (changes-within z columns t ks)
 
   out-within : (p : Point) (ps : List Part) → Within ps → Within (opened_out p ps)
   out-within p (Changes t ∷ ps) e =
-      all-append (is_within w s) (change_parts p.statement p.columns t (found_rows p.kept)) ps (changes-within p.statement p.columns t (found_rows p.kept)) e
+      all-append (is_within head w s) (change_parts p.statement p.columns t (found_rows p.kept)) ps (changes-within p.statement p.columns t (found_rows p.kept)) e
   out-within p ps e = e
 
 -- ---- answers
 
--- the answer of a look
-abbrev pub is_shown : Told → Bool
-is_shown (Told.Shown shown fresh) = true
-is_shown t = false
+-- the answer of a look, or where a step of an index scan stands
+abbrev pub tells_scan : Told → Bool
+tells_scan (Told.Shown shown fresh) = true
+tells_scan (Told.At key r) = true
+tells_scan t = false
 
 -- the point with other parts left
-moved : (head : Head) (w : World) (p : Point) (ps : List Part) → list_all (is_within w p.statement) ps ≡ true → IsPlainAt head w p
-    → IsPlainAt head w (record p { left = ps })
+moved : (head : Head) (w : World) (p : Point) (ps : List Part) → list_all (is_within head w p.statement) ps ≡ true → IsSoundPoint head w p
+    → IsSoundPoint head w (record p { left = ps })
 moved head w p ps e g = record { sound = g.sound; columns = g.columns; within = e; few = g.few }
 
+-- a step of an index scan that stands at an entry of a slot
+pub found-sound : (head : Head) (w : World) (p : Point) (key : Value) (r : Rid) → FindsSlot head w p.statement r p.left → IsSoundPoint head w p
+    → IsSoundPoint head w (told_point p (Told.At key r))
+found-sound head w p key r there g = moved head w p _ (standing-within head w p.statement key r p.left there g.within) g
+
 -- an answer of another step leaves the scan where it was
-pub told-plain : (head : Head) (w : World) (p : Point) (t : Told) → is_shown t ≡ false → IsPlainAt head w p → IsPlainAt head w (told_point p t)
-told-plain head w p Told.Done off g = moved head w p _ (all-behind (is_within w p.statement) p.left g.within) g
-told-plain head w p Told.Granted off g = moved head w p _ (all-behind (is_within w p.statement) p.left g.within) g
-told-plain head w p Told.Queued off g = moved head w p _ (queued-within w p.statement p.left g.within) g
-told-plain head w p Told.Blocked off g = moved head w p _ g.within g
-told-plain head w p Told.TimedOut off g = moved head w p _ refl g
-told-plain head w p (Told.Ended reason) off g = moved head w p _ refl g
-told-plain head w p (Told.Escalates t) off g = moved head w p _ g.within g
-told-plain head w p (Told.Refused code) off g = moved head w p _ refl g
-told-plain head w p (Told.Shown shown fresh) off g = absurd (cc)
-told-plain head w p Told.EndOfTable off g = moved head w p _ (out-within w p.statement p (behind p.left) (all-behind (is_within w p.statement) p.left g.within)) g
-told-plain head w p Told.Past off g = moved head w p _ (out-within w p.statement p (behind p.left) (all-behind (is_within w p.statement) p.left g.within)) g
-told-plain head w p (Told.At key r) off g = moved head w p _ (standing-within w p.statement key r p.left g.within) g
-told-plain head w p (Told.Undone true) off g = g
-told-plain head w p (Told.Undone false) off g = moved head w p _ (ending-within w p.statement p.left g.within) g
-told-plain head w p (Told.Floor mark) off g = moved head w p _ (backed-within w p.statement mark p.left g.within) g
+pub told-sound : (head : Head) (w : World) (p : Point) (t : Told) → tells_scan t ≡ false → IsSoundPoint head w p → IsSoundPoint head w (told_point p t)
+told-sound head w p Told.Done off g = moved head w p _ (all-behind (is_within head w p.statement) p.left g.within) g
+told-sound head w p Told.Granted off g = moved head w p _ (all-behind (is_within head w p.statement) p.left g.within) g
+told-sound head w p Told.Queued off g = moved head w p _ (queued-within head w p.statement p.left g.within) g
+told-sound head w p Told.Blocked off g = moved head w p _ g.within g
+told-sound head w p Told.TimedOut off g = moved head w p _ refl g
+told-sound head w p (Told.Ended reason) off g = moved head w p _ refl g
+told-sound head w p (Told.Escalates t) off g = moved head w p _ g.within g
+told-sound head w p (Told.Refused code) off g = moved head w p _ refl g
+told-sound head w p (Told.Shown shown fresh) off g = absurd (cc)
+told-sound head w p Told.EndOfTable off g =
+    moved head w p _ (out-within head w p.statement p (behind p.left) (all-behind (is_within head w p.statement) p.left g.within)) g
+told-sound head w p Told.Past off g =
+    moved head w p _ (out-within head w p.statement p (behind p.left) (all-behind (is_within head w p.statement) p.left g.within)) g
+told-sound head w p (Told.At key r) off g = absurd (cc)
+told-sound head w p (Told.Undone true) off g = g
+told-sound head w p (Told.Undone false) off g = moved head w p _ (ending-within head w p.statement p.left g.within) g
+told-sound head w p (Told.Floor mark) off g = moved head w p _ (backed-within head w p.statement mark p.left g.within) g
 
 -- ---- looks
 
@@ -132,70 +156,132 @@ pub record IsLater (w v : World) : Type 0 where
   pub slots : (t : TableId) → slots w t ≤ slots v t
   pub made : w.made + 1 ≤ v.made
 
-within-later : (w v : World) (s : Statement) → IsLater w v → (x : Part) → is_within w s x ≡ true → is_within v s x ≡ true
-within-later w v s l (TableScan t want r) e =
+within-later : (head : Head) (w v : World) (s : Statement) → IsLater w v → (x : Part) → is_within head w s x ≡ true → is_within head v s x ≡ true
+within-later head w v s l (TableScan t want r) e =
     let a = and-of (is_scanned s t) (nat_le r (slots w t) && nat_le r w.made) e in
     let b = and-of (nat_le r (slots w t)) (nat_le r w.made) a.1 in
     let below : r ≤ slots v t = omega (arith, leb-true r (slots w t) b.0, l.slots t) in
     let few : r ≤ v.made = omega (arith, leb-true r w.made b.1, l.made) in
     and-to (is_scanned s t) (nat_le r (slots v t) && nat_le r v.made) a.0
     (and-to (nat_le r (slots v t)) (nat_le r v.made) (le-leb r (slots v t) below) (le-leb r v.made few))
-within-later w v s l x e = e
+within-later head w v s l (EntryLook k key r) e =
+    let a = and-of (is_walk head s k) (nat_lt r.0 (slots w k.table)) e in
+    let below : r.0 < slots v k.table = omega (arith, ltb-true r.0 (slots w k.table) a.1, l.slots k.table) in
+    and-to (is_walk head s k) (nat_lt r.0 (slots v k.table)) a.0 (lt-ltb r.0 (slots v k.table) below)
+within-later head w v s l x e = e
 
-all-later : (w v : World) (s : Statement) → IsLater w v → (ps : List Part) → list_all (is_within w s) ps ≡ true → list_all (is_within v s) ps ≡ true
-all-later w v s l [] e = refl
-all-later w v s l (x ∷ xs) e =
-    let k = and-of (is_within w s x) (list_all (is_within w s) xs) e in
-    and-to (is_within v s x) (list_all (is_within v s) xs) (within-later w v s l x k.0) (all-later w v s l xs k.1)
+all-later : (head : Head) (w v : World) (s : Statement) → IsLater w v → (ps : List Part) → list_all (is_within head w s) ps ≡ true → list_all (is_within head v s) ps ≡ true
+all-later head w v s l [] e = refl
+all-later head w v s l (x ∷ xs) e =
+    let k = and-of (is_within head w s x) (list_all (is_within head w s) xs) e in
+    and-to (is_within head v s x) (list_all (is_within head v s) xs) (within-later head w v s l x k.0) (all-later head w v s l xs k.1)
 
-pub plain-later : (head : Head) (w v : World) (p : Point) → IsLater w v → IsPlainAt head w p → IsPlainAt head v p
-plain-later head w v p l g = record {
+pub sound-later : (head : Head) (w v : World) (p : Point) → IsLater w v → IsSoundPoint head w p → IsSoundPoint head v p
+sound-later head w v p l g = record {
   sound = g.sound;
   columns = g.columns;
-  within = all-later w v p.statement l p.left g.within;
+  within = all-later head w v p.statement l p.left g.within;
   few = omega (arith, g.few, l.made);
 }
 
-freeing-within : (w : World) (s : Statement) (ps : List Part) → list_all (is_within w s) (freeing ps) ≡ true
-freeing-within w s (TableScan t want r ∷ ps) = go (frees want)
+freeing-within : (head : Head) (w : World) (s : Statement) (ps : List Part) → list_all (is_within head w s) (freeing ps) ≡ true
+freeing-within head w s (TableScan t want r ∷ ps) = go (frees want)
   where
-    go : (b : Bool) → list_all (is_within w s) (if b then Frees t (record { 0 = r }) ∷ [] else []) ≡ true
+    go : (b : Bool) → list_all (is_within head w s) (if b then Frees t (record { 0 = r }) ∷ [] else []) ≡ true
     go true = refl
     go false = refl
-freeing-within w s (EntryLook k key r ∷ ps) = go (frees k.want)
+freeing-within head w s (EntryLook k key r ∷ ps) = go (frees k.want)
   where
-    go : (b : Bool) → list_all (is_within w s) (if b then Frees k.table r ∷ [] else []) ≡ true
+    go : (b : Bool) → list_all (is_within head w s) (if b then Frees k.table r ∷ [] else []) ≡ true
     go true = refl
     go false = refl
-freeing-within w s _ = refl
+freeing-within head w s _ = refl
 
-fresh-within : (w : World) (s : Statement) (fresh : Bool) (ps : List Part) → list_all (is_within w s) (if fresh then freeing ps else []) ≡ true
-fresh-within w s true ps = freeing-within w s ps
-fresh-within w s false ps = refl
+fresh-within : (head : Head) (w : World) (s : Statement) (fresh : Bool) (ps : List Part) → list_all (is_within head w s) (if fresh then freeing ps else []) ≡ true
+fresh-within head w s true ps = freeing-within head w s ps
+fresh-within head w s false ps = refl
 
 -- a look at a slot that is there goes on to the next
-past-within : (w v : World) (s : Statement) (t : TableId) (want : Want) (r : ℕ) (ps : List Part) → IsLater w v → r < slots w t
-    → list_all (is_within w s) (TableScan t want r ∷ ps) ≡ true → list_all (is_within v s) (TableScan t want (r + 1) ∷ ps) ≡ true
-past-within w v s t want r ps l there e =
-    let k = and-of (is_within w s (TableScan t want r)) (list_all (is_within w s) ps) e in
+past-within : (head : Head) (w v : World) (s : Statement) (t : TableId) (want : Want) (r : ℕ) (ps : List Part) → IsLater w v → r < slots w t
+    → list_all (is_within head w s) (TableScan t want r ∷ ps) ≡ true → list_all (is_within head v s) (TableScan t want (r + 1) ∷ ps) ≡ true
+past-within head w v s t want r ps l there e =
+    let k = and-of (is_within head w s (TableScan t want r)) (list_all (is_within head w s) ps) e in
     let a = and-of (is_scanned s t) (nat_le r (slots w t) && nat_le r w.made) k.0 in
     let b = and-of (nat_le r (slots w t)) (nat_le r w.made) a.1 in
     let below : r + 1 ≤ slots v t = omega (arith, there, l.slots t) in
     let few : r + 1 ≤ v.made = omega (arith, leb-true r w.made b.1, l.made) in
-    and-to (is_within v s (TableScan t want (r + 1))) (list_all (is_within v s) ps)
+    and-to (is_within head v s (TableScan t want (r + 1))) (list_all (is_within head v s) ps)
     (and-to (is_scanned s t) (nat_le (r + 1) (slots v t) && nat_le (r + 1) v.made) a.0
     (and-to (nat_le (r + 1) (slots v t)) (nat_le (r + 1) v.made) (le-leb (r + 1) (slots v t) below) (le-leb (r + 1) v.made few)))
-    (all-later w v s l ps k.1)
+    (all-later head w v s l ps k.1)
 
-looked-plain : (head : Head) (w v : World) (p : Point) (t : TableId) (want : Want) (r : ℕ) (ps : List Part) (shown : Option (List Value)) (fresh kept : Bool)
-    → IsLater w v → p.left ≡ TableScan t want r ∷ ps → r < slots w t → IsPlainAt head w p → IsPlainAt head v (looked_by p shown fresh kept)
-looked-plain head w v p t want r ps shown fresh kept l is there g = go kept
+-- a look at an entry goes back to its scan
+back-within : (head : Head) (w v : World) (s : Statement) (k : Walk) (key : Value) (r : Rid) (ps : List Part) → IsLater w v
+    → list_all (is_within head w s) (EntryLook k key r ∷ ps) ≡ true → list_all (is_within head v s) (IndexScan k (Some (key, r)) ∷ ps) ≡ true
+back-within head w v s k key r ps l e =
+    let a = and-of (is_within head w s (EntryLook k key r)) (list_all (is_within head w s) ps) e in
+    and-to (is_walk head s k) (list_all (is_within head v s) ps) (and-of (is_walk head s k) (nat_lt r.0 (slots w k.table)) a.0).0 (all-later head w v s l ps a.1)
+
+-- the look that is due is one of the statement's table, at a slot that is there or behind the last; a table scan is at no more slots than
+-- there are entries
+pub record IsLooking (head : Head) (w : World) (s : Statement) (ps : List Part) (t : TableId) (r : Rid) : Type 0 where
+  pub scanned : is_scanned s t ≡ true
+  pub within : r.0 ≤ slots w t
+  pub slot : scan_slot ps ≤ w.made
+  pub keyed : keyed_within (length (columns_of head t)) ps ≡ true
+  pub past : (v : World) → IsLater w v → r.0 < slots w t → list_all (is_within head v s) (past_look ps) ≡ true
+
+entry-looking : (head : Head) (w : World) (s : Statement) (k : Walk) (key : Value) (n : Rid) (ps : List Part)
+    → list_all (is_within head w s) (EntryLook k key n ∷ ps) ≡ true → IsLooking head w s (EntryLook k key n ∷ ps) k.table n
+entry-looking head w s k key n ps h =
+    let a = and-of (is_within head w s (EntryLook k key n)) (list_all (is_within head w s) ps) h in
+    let b = and-of (is_walk head s k) (nat_lt n.0 (slots w k.table)) a.0 in
+    let d = and-of (is_scanned s k.table) _ b.0 in
+    let lt : n.0 < slots w k.table = ltb-true n.0 (slots w k.table) b.1 in
+    record {
+      scanned = d.0;
+      within = omega (arith, lt);
+      slot = omega arith;
+      keyed = (and-of (option_map_or (λ t. table_eq t k.table) (table_of_index head k.index) false) _ d.1).1;
+      past = λ v l there. back-within head w v s k key n ps l h;
+    }
+
+table-looking : (head : Head) (w : World) (s : Statement) (t : TableId) (want : Want) (n : ℕ) (ps : List Part)
+    → list_all (is_within head w s) (TableScan t want n ∷ ps) ≡ true → IsLooking head w s (TableScan t want n ∷ ps) t (record { 0 = n })
+table-looking head w s t want n ps h =
+    let a = and-of (is_within head w s (TableScan t want n)) (list_all (is_within head w s) ps) h in
+    let b = and-of (is_scanned s t) (nat_le n (slots w t) && nat_le n w.made) a.0 in
+    let d = and-of (nat_le n (slots w t)) (nat_le n w.made) b.1 in
+    record {
+      scanned = b.0;
+      within = leb-true n (slots w t) d.0;
+      slot = leb-true n w.made d.1;
+      keyed = refl;
+      past = λ v l there. past-within head w v s t want n ps l there h;
+    }
+
+pub looking : (head : Head) (w : World) (s : Statement) (kept : Haul) (ps : List Part) (t : TableId) (r : Rid) (want : Want)
+    → due_by kept ps ≡ Move.Look t r want → list_all (is_within head w s) ps ≡ true → IsLooking head w s ps t r
+looking head w s kept (TableScan u k n ∷ ps) t r want e h =
+    let a : u ≡ t = cc in
+    let d : record { 0 = n } ≡ r = cc in
+    subst (λ (x : TableId). IsLooking head w s (TableScan u k n ∷ ps) x r) a
+    (subst (λ (x : Rid). IsLooking head w s (TableScan u k n ∷ ps) u x) d (table-looking head w s u k n ps h))
+looking head w s kept (EntryLook k key n ∷ ps) t r want e h =
+    let a : k.table ≡ t = cc in
+    let d : n ≡ r = cc in
+    subst (λ (x : TableId). IsLooking head w s (EntryLook k key n ∷ ps) x r) a
+    (subst (λ (x : Rid). IsLooking head w s (EntryLook k key n ∷ ps) k.table x) d (entry-looking head w s k key n ps h))
+looking head w s kept _ t r want e h = absurd (cc)
+
+looked-sound : (head : Head) (w v : World) (p : Point) (t : TableId) (r : Rid) (shown : Option (List Value)) (fresh kept : Bool)
+    → IsLater w v → IsLooking head w p.statement p.left t r → r.0 < slots w t → IsSoundPoint head w p → IsSoundPoint head v (looked_by p shown fresh kept)
+looked-sound head w v p t r shown fresh kept l look there g = go kept
   where
-    past : list_all (is_within v p.statement) (past_look p.left) ≡ true
-    past = subst (λ xs. list_all (is_within v p.statement) (past_look xs) ≡ true) (sym is)
-        (past-within w v p.statement t want r ps l there (subst (λ xs. list_all (is_within w p.statement) xs ≡ true) is g.within))
+    past : list_all (is_within head v p.statement) (past_look p.left) ≡ true
+    past = look.past v l there
 
-    go : (b : Bool) → IsPlainAt head v (looked_by p shown fresh b)
+    go : (b : Bool) → IsSoundPoint head v (looked_by p shown fresh b)
     go true = record {
       sound = g.sound;
       columns = g.columns;
@@ -205,11 +291,31 @@ looked-plain head w v p t want r ps shown fresh kept l is there g = go kept
     go false = record {
       sound = g.sound;
       columns = g.columns;
-      within = all-append (is_within v p.statement) (if fresh then freeing p.left else []) (past_look p.left) (fresh-within v p.statement fresh p.left) past;
+      within = all-append (is_within head v p.statement) (if fresh then freeing p.left else []) (past_look p.left) (fresh-within head v p.statement fresh p.left) past;
       few = omega (arith, g.few, l.made);
     }
 
 -- the answer of a look at a slot that is there
-pub shown-plain : (head : Head) (w v : World) (p : Point) (t : TableId) (want : Want) (r : ℕ) (ps : List Part) (shown : Option (List Value)) (fresh : Bool)
-    → IsLater w v → p.left ≡ TableScan t want r ∷ ps → r < slots w t → IsPlainAt head w p → IsPlainAt head v (looked p shown fresh)
-shown-plain head w v p t want r ps shown fresh l is there g = looked-plain head w v p t want r ps shown fresh (is_kept p shown) l is there g
+pub shown-sound : (head : Head) (w v : World) (p : Point) (t : TableId) (r : Rid) (shown : Option (List Value)) (fresh : Bool)
+    → IsLater w v → IsLooking head w p.statement p.left t r → r.0 < slots w t → IsSoundPoint head w p → IsSoundPoint head v (looked p shown fresh)
+shown-sound head w v p t r shown fresh l look there g = looked-sound head w v p t r shown fresh (is_kept p shown) l look there g
+
+-- the step of an index scan that is due is one of the statement's
+pub record IsWalking (head : Head) (ps : List Part) (i : IndexId) : Type 0 where
+  pub table : TableId
+  pub on : table_of_index head i ≡ Some table
+  pub finds : (w : World) (s : Statement) (r : Rid) → r.0 < slots w table → FindsSlot head w s r ps
+
+walk-on : (head : Head) (k : Walk) → option_map_or (λ t. table_eq t k.table) (table_of_index head k.index) false ≡ true → table_of_index head k.index ≡ Some k.table
+walk-on head k e = table-of-test k.table (table_of_index head k.index) e
+
+pub walking : (head : Head) (w : World) (s : Statement) (kept : Haul) (ps : List Part) (i : IndexId) (range : Range) (at : Option (Value × Rid)) (guarded : Bool)
+    → due_by kept ps ≡ Move.Next i range at guarded → list_all (is_within head w s) ps ≡ true → IsWalking head ps i
+walking head w s kept (IndexScan k from ∷ ps) i range at guarded e h =
+    let a : k.index ≡ i = cc in
+    let b = and-of (is_walk head s k) (list_all (is_within head w s) ps) h in
+    let d = and-of (is_scanned s k.table) _ b.0 in
+    let f = and-of (option_map_or (λ t. table_eq t k.table) (table_of_index head k.index) false) _ d.1 in
+    subst (λ (x : IndexId). IsWalking head (IndexScan k from ∷ ps) x) a
+    (record { table = k.table; on = walk-on head k f.0; finds = λ v z r there. there })
+walking head w s kept _ i range at guarded e h = absurd (cc)

@@ -1,34 +1,38 @@
--- A sound statement over a head without an index, before its first entry.
-use Rattle.std.proofs.Common.{◌≡◌, ℕ, Bool, true, false, List, [], ◌∷◌, refl, sym, ap, ◌∙◌, subst, Option, Some, None, arith, length, filter, find, if◌then◌else◌}
-use Rattle.std.proofs.lemmas.Bool.{and_parts, eq-eqb, le-leb}
+-- A sound statement before its first entry.
+use Rattle.std.proofs.Common.{◌≡◌, ℕ, Bool, true, false, ◌&&◌, List, [], ◌∷◌, refl, sym, subst, Option, Some, None, arith, length, find, option_map, if◌then◌else◌}
+use Rattle.std.proofs.lemmas.Bool.{and_parts, eq-eqb, le-leb, lt-ltb}
 use Rattle.std.specs.List.{list_all}
-use Rattle.std.specs.Prelude.{◌==◌, nat_le}
-use Rattle.iso_agent.specs.Scans.{IsPlainAt, is_scanned, is_within}
+use Rattle.std.specs.Option.{option_map_or}
+use Rattle.std.specs.Prelude.{◌==◌, nat_le, nat_lt, slice_get}
+use Rattle.iso_agent.specs.Scans.{IsSoundPoint, is_scanned, is_walk, is_within}
+use Rattle.iso_conduct.proofs.Needs.{AllNeed, Locked}
+use Rattle.iso_conduct.proofs.NeedsBegin.{begin-needs}
 use Rattle.iso_conduct.specs.Conduct.{is_line_of, statement_at, statement_in, statement_on}
 use Rattle.iso_conduct.specs.Courses.{haul_size}
-use Rattle.iso_conduct.specs.Parts.{Part, change_list, change_want, level_in, listed, new_row, replies, scan, select_list, select_want}
-use Rattle.iso_conduct.specs.Parts.Part.{Answer, NewRow, Refuses, TableScan}
+use Rattle.iso_conduct.specs.Parts.{Part, Walk, change_list, change_want, guards_keys, key_column, level_in, listed, new_row, replies, select_list, select_want}
+use Rattle.iso_conduct.specs.Parts.Part.{Answer, IndexScan, NewRow, Refuses, TableScan}
 use Rattle.iso_conduct.specs.Points.{first_haul, start_point}
-use Rattle.iso_history.proofs.whole.PressedWrites.{indexes-declared}
 use Rattle.iso_history.specs.Versions.{slots}
 use Rattle.iso_history.specs.World.{Setting, World}
 use Rattle.iso_history.specs.Writes.{minus}
 use Rattle.iso_history.specs.declared.entry.Want.{Want}
 use Rattle.iso_predicate.specs.Assigned.{has_null}
-use Rattle.iso_predicate.specs.Plan.{first_path, plan_of}
+use Rattle.iso_predicate.specs.Plan.{plan_of}
 use Rattle.iso_predicate.specs.declared.plans.Path.{Path}
-use Rattle.iso_script.specs.Sound.{is_sound_line, is_sound_what}
+use Rattle.iso_script.specs.Sound.{IsSoundHead, is_sound_line, is_sound_what}
 use Rattle.iso_script.specs.declared.script.Line.{Line}
 use Rattle.iso_script.specs.declared.script.What.{What}
 use Rattle.iso_sql.specs.Sound.{columns_of, is_sound_statement}
-use Rattle.iso_sql.specs.declared.statement.Condition.{Condition}
 use Rattle.iso_sql.specs.declared.statement.Items2.TheVariants.{All, Columns, Count}
 use Rattle.iso_sql.specs.declared.statement.Statement.{Statement}
 use Rattle.iso_sql.specs.declared.statement.Statement.TheVariants as st
-use Rattle.iso_types.specs.Head.{indexes_of}
+use Rattle.iso_standing.proofs.Slotted.{index-at}
+use Rattle.iso_types.specs.Head.{table_of_index}
 use Rattle.iso_types.specs.Ids.{table_eq}
 use Rattle.iso_types.specs.declared.head.Head.{Head}
+use Rattle.iso_types.specs.declared.head.IndexDef.{IndexDef}
 use Rattle.iso_types.specs.declared.head.Isolation.{Isolation}
+use Rattle.iso_types.specs.declared.head.Range.{Range}
 use Rattle.iso_types.specs.declared.value.Conn.{Conn}
 use Rattle.iso_types.specs.declared.value.IndexId.{IndexId}
 use Rattle.iso_types.specs.declared.value.TableId.{TableId}
@@ -72,25 +76,19 @@ statement-sound head lines c (Some n) s sound e =
 
 -- ---- its parts
 
-pub none-of : {A : Type 0} (xs : List A) → length xs ≡ 0 → xs ≡ []
-none-of [] e = refl
-none-of (x ∷ xs) e = absurd (omega (arith, e))
+same-table : (t : TableId) → table_eq t t ≡ true
+same-table t = eq-eqb t.0 t.0 refl
 
--- no index is of the table
-pub no-indexes : (head : Head) (t : TableId) → length head.indexes ≡ 0 → indexes_of head t ≡ []
-no-indexes head t plain = none-of (indexes_of head t) (indexes-declared head t ∙ filtered (λ d. table_eq d.table t) head.indexes plain)
-  where
-    filtered : {A : Type 0} (p : A → Bool) (xs : List A) → length xs ≡ 0 → length (filter p xs) ≡ 0
-    filtered p [] e = refl
-    filtered p (x ∷ xs) e = absurd (omega (arith, e))
-
--- so the path is the table
-plain-plan : (head : Head) (t : TableId) (cond : Condition) → length head.indexes ≡ 0 → plan_of head t cond ≡ Path.Table
-plain-plan head t cond plain = ap (λ (is : List IndexId). first_path head cond is) (no-indexes head t plain)
-
-module _ (head : Head) (w : World) where
+module _ (head : Head) (w : World) (good : IsSoundHead head) where
   abbrev Within : Statement → List Part → Type 0
-  Within s ps = list_all (is_within w s) ps ≡ true
+  Within s ps = list_all (is_within head w s) ps ≡ true
+
+  -- nothing is locked, and nothing need be
+  abbrev NoLock : Locked
+  NoLock u k = Unit {0}
+
+  and-to : (a b : Bool) → a ≡ true → b ≡ true → (a && b) ≡ true
+  and-to a b e f = rw (e, f) refl
 
   scan-within : (s : Statement) (t : TableId) (want : Want) (ps : List Part) → is_scanned s t ≡ true → Within s ps → Within s (TableScan t want 0 ∷ ps)
   scan-within s t want ps e rest =
@@ -98,20 +96,42 @@ module _ (head : Head) (w : World) where
       let b : nat_le 0 w.made ≡ true = le-leb 0 w.made (omega arith) in
       rw (e, a, b, rest) refl
 
-  same-table : (t : TableId) → table_eq t t ≡ true
-  same-table t = eq-eqb t.0 t.0 refl
+  -- the keys of an index of the table are a column of it
+  key-within : (i : IndexId) (t : TableId) → table_of_index head i ≡ Some t → nat_lt (key_column head i) (length (columns_of head t)) ≡ true
+  key-within i t on = go (slice_get head.indexes i.0) refl on
+    where
+      go : (o : Option IndexDef) → slice_get head.indexes i.0 ≡ o → option_map (λ d. d.table) o ≡ Some t
+          → nat_lt (option_map_or (λ (d : IndexDef). d.column) o 0) (length (columns_of head t)) ≡ true
+      go None f h = absurd (cc)
+      go (Some d) f h =
+          let k : d.table ≡ t = cc in
+          subst (λ z. nat_lt d.column (length (columns_of head z)) ≡ true) k
+          (lt-ltb d.column (length (columns_of head d.table)) (index-at head i d good f).column)
 
-  select-within : (s : Statement) (t : TableId) (level : Isolation) (path : Path) → is_scanned s t ≡ true → path ≡ Path.Table
+  walk-within : (s : Statement) (k : Walk) (ps : List Part) → is_scanned s k.table ≡ true → table_of_index head k.index ≡ Some k.table
+      → k.column ≡ key_column head k.index → Within s ps → Within s (IndexScan k None ∷ ps)
+  walk-within s k ps e on column rest =
+      let a : option_map_or (λ t. table_eq t k.table) (table_of_index head k.index) false ≡ true = rw on (same-table k.table) in
+      let b : nat_lt k.column (length (columns_of head k.table)) ≡ true =
+      subst (λ n. nat_lt n (length (columns_of head k.table)) ≡ true) (sym column) (key-within k.index k.table on) in
+      and-to (is_walk head s k) (list_all (is_within head w s) ps) (and-to (is_scanned s k.table) _ e (and-to _ _ a b)) rest
+
+  -- the scan by an index
+  abbrev walk_by : TableId → Want → Isolation → IndexId → Range → Walk
+  walk_by t want level i range =
+      record { table = t; want = want; index = i; column = key_column head i; range = range; guarded = guards_keys level }
+
+  select-within : (s : Statement) (t : TableId) (level : Isolation) (path : Path) → is_scanned s t ≡ true → AllNeed head NoLock (select_list head t level path)
       → Within s (select_list head t level path)
-  select-within s t level path e is =
-      subst (λ x. Within s (scan head t (select_want head.config.cur_commit level) level x ∷ Answer ∷ [])) (sym is)
-      (scan-within s t (select_want head.config.cur_commit level) (Answer ∷ []) e refl)
+  select-within s t level Path.Table e n = scan-within s t (select_want head.config.cur_commit level) (Answer ∷ []) e refl
+  select-within s t level (Path.Index i range) e n =
+      walk-within s (walk_by t (select_want head.config.cur_commit level) level i range) (Answer ∷ []) e n.1.0.1 refl refl
 
-  change-within : (s : Statement) (t : TableId) (level : Isolation) (path : Path) → is_scanned s t ≡ true → path ≡ Path.Table
+  change-within : (s : Statement) (t : TableId) (level : Isolation) (path : Path) → is_scanned s t ≡ true → AllNeed head NoLock (change_list head t level path)
       → Within s (change_list head t level path)
-  change-within s t level path e is =
-      subst (λ x. Within s (scan head t (change_want level) level x ∷ Part.Changes t ∷ Answer ∷ [])) (sym is)
-      (scan-within s t (change_want level) (Part.Changes t ∷ Answer ∷ []) e refl)
+  change-within s t level Path.Table e n = scan-within s t (change_want level) (Part.Changes t ∷ Answer ∷ []) e refl
+  change-within s t level (Path.Index i range) e n =
+      walk-within s (walk_by t (change_want level) level i range) (Part.Changes t ∷ Answer ∷ []) e n.1.0.1 refl refl
 
   insert-within : (s : Statement) (t : TableId) (row : List Value) → Within s (new_row head t row ∷ replies 1)
   insert-within s t row = go (has_null (columns_of head t) row)
@@ -120,21 +140,21 @@ module _ (head : Head) (w : World) where
       go true = refl
       go false = refl
 
-  listed-within : (c : Conn) (set : Setting) (s : Statement) → length head.indexes ≡ 0 → Within s (listed head c set s)
-  listed-within c set (st.Select t items cond level) plain =
-      select-within (st.Select t items cond level) t (level_in set level) (plan_of head t cond) (same-table t) (plain-plan head t cond plain)
-  listed-within c set (st.Update t sets cond level) plain =
-      change-within (st.Update t sets cond level) t (level_in set level) (plan_of head t cond) (same-table t) (plain-plan head t cond plain)
-  listed-within c set (st.Delete t cond level) plain =
-      change-within (st.Delete t cond level) t (level_in set level) (plan_of head t cond) (same-table t) (plain-plan head t cond plain)
-  listed-within c set (st.Insert t row) plain = insert-within (st.Insert t row) t row
-  listed-within c set (st.LockTable t mode) plain = refl
-  listed-within c set (st.Savepoint name) plain = refl
-  listed-within c set (st.RollbackTo name) plain = refl
-  listed-within c set st.Rollback plain = refl
-  listed-within c set st.Commit plain = refl
-  listed-within c set (st.SetIsolation level) plain = refl
-  listed-within c set (st.SetWait may_wait) plain = refl
+  listed-within : (c : Conn) (set : Setting) (s : Statement) → AllNeed head NoLock (listed head c set s) → Within s (listed head c set s)
+  listed-within c set (st.Select t items cond level) n =
+      select-within (st.Select t items cond level) t (level_in set level) (plan_of head t cond) (same-table t) n
+  listed-within c set (st.Update t sets cond level) n =
+      change-within (st.Update t sets cond level) t (level_in set level) (plan_of head t cond) (same-table t) n
+  listed-within c set (st.Delete t cond level) n =
+      change-within (st.Delete t cond level) t (level_in set level) (plan_of head t cond) (same-table t) n
+  listed-within c set (st.Insert t row) n = insert-within (st.Insert t row) t row
+  listed-within c set (st.LockTable t mode) n = refl
+  listed-within c set (st.Savepoint name) n = refl
+  listed-within c set (st.RollbackTo name) n = refl
+  listed-within c set st.Rollback n = refl
+  listed-within c set st.Commit n = refl
+  listed-within c set (st.SetIsolation level) n = refl
+  listed-within c set (st.SetWait may_wait) n = refl
 
   first-none : (s : Statement) → haul_size (first_haul s) ≡ 0
   first-none (st.Select t All cond level) = refl
@@ -151,11 +171,11 @@ module _ (head : Head) (w : World) where
   first-none (st.SetIsolation level) = refl
   first-none (st.SetWait may_wait) = refl
 
-  pub start-plain : (c : Conn) (set : Setting) (floor : ℕ) (s : Statement) → length head.indexes ≡ 0 → is_sound_statement head s ≡ true
-      → IsPlainAt head w (start_point head c set floor s)
-  start-plain c set floor s plain sound = record {
+  pub start-sound : (c : Conn) (set : Setting) (floor : ℕ) (s : Statement) → is_sound_statement head s ≡ true
+      → IsSoundPoint head w (start_point head c set floor s)
+  start-sound c set floor s sound = record {
     sound = sound;
     columns = refl;
-    within = listed-within c set s plain;
+    within = listed-within c set s (begin-needs head NoLock c set s sound);
     few = omega (arith, first-none s);
   }

@@ -1,20 +1,18 @@
 -- The row that a look of an open statement shows may be told to its task.
-use Rattle.std.proofs.Common.{◌≡◌, ◌≤◌, ◌<◌, ◌+◌, ℕ, Bool, true, false, ◌&&◌, List, [], ◌∷◌, refl, sym, ap, subst, Option, Some, arith, if◌then◌else◌}
-use Rattle.std.proofs.lemmas.Bool.{and_parts, eqb-true, leb-true}
-use Rattle.std.specs.List.{list_all}
-use Rattle.std.specs.Prelude.{◌==◌, nat_le}
-use Rattle.iso_agent.specs.Scans.{IsPlainAt, is_scanned, is_within}
-use Rattle.iso_conduct.proofs.Fitting.{reads-fit}
-use Rattle.iso_conduct.specs.Courses.{MayTell, fits_table, haul_size, key_within, reads_within, scan_slot, suits}
-use Rattle.iso_conduct.specs.Parts.{Part}
-use Rattle.iso_conduct.specs.Parts.Part.{TableScan}
+use Rattle.std.proofs.Common.{◌≡◌, ◌≤◌, ◌<◌, ◌+◌, ℕ, Bool, true, false, List, [], ◌∷◌, refl, sym, ap, subst, Option, Some, arith, if◌then◌else◌}
+use Rattle.std.proofs.lemmas.Bool.{eqb-true}
+use Rattle.std.specs.Prelude.{◌==◌}
+use Rattle.iso_agent.proofs.ScanSteps.{IsLooking}
+use Rattle.iso_agent.specs.Scans.{IsSoundPoint, is_scanned}
+use Rattle.iso_conduct.proofs.Fitting.{reads-fit, row-long}
+use Rattle.iso_conduct.specs.Courses.{MayTell, fits_table, haul_size, key_within, keyed_within, reads_within, scan_slot, suits}
 use Rattle.iso_conduct.specs.Points.{Point}
 use Rattle.iso_conduct.specs.declared.moves.Told.{Told}
 use Rattle.iso_history.proofs.log.Fitted.{present-fits}
 use Rattle.iso_history.specs.Fitted.{AllFit, Fits, RowsFit}
 use Rattle.iso_history.specs.Looks.{shown}
 use Rattle.iso_history.specs.Units.{unit_of}
-use Rattle.iso_history.specs.Versions.{committed, is_pending_beside, present, slots, versions, view_of}
+use Rattle.iso_history.specs.Versions.{committed, is_pending_beside, present, versions, view_of}
 use Rattle.iso_history.specs.World.{Version, World}
 use Rattle.iso_history.specs.declared.entry.Want.{Want}
 use Rattle.iso_history.specs.declared.entry.Want.TheVariants.{Dirty}
@@ -62,28 +60,17 @@ fits-scanned head (st.Update u sets cond level) t row e fits = subst (λ x. row_
 fits-scanned head (st.Delete u cond level) t row e fits = subst (λ x. row_fits head x row ≡ true) (table-is u t e) fits
 fits-scanned head _ t row e fits = refl
 
-module _ (head : Head) (w : World) (p : Point) (g : IsPlainAt head w p) (t : TableId) (want : Want) (r : ℕ) (ps : List Part)
-    (is : p.left ≡ TableScan t want r ∷ ps) where
-  place : (is_scanned p.statement t ≡ true) × (r ≤ slots w t) × (r ≤ w.made)
-  place =
-      let h : list_all (is_within w p.statement) (TableScan t want r ∷ ps) ≡ true = subst (λ xs. list_all (is_within w p.statement) xs ≡ true) is g.within in
-      let a = and_parts (is_within w p.statement (TableScan t want r)) (list_all (is_within w p.statement) ps) h in
-      let b = and_parts (is_scanned p.statement t) (nat_le r (slots w t) && nat_le r w.made) a.0 in
-      let d = and_parts (nat_le r (slots w t)) (nat_le r w.made) b.1 in
-      (b.0, leb-true r (slots w t) d.0, leb-true r w.made d.1)
-
+module _ (head : Head) (w : World) (p : Point) (g : IsSoundPoint head w p) (t : TableId) (r : Rid) (look : IsLooking head w p.statement p.left t r) where
   row-suits : (row : List Value) → row_fits head t row ≡ true → suits p row ≡ true
   row-suits row fits =
       let reads : reads_within p.statement p.columns row ≡ true =
-      subst (λ xs. reads_within p.statement xs row ≡ true) (sym g.columns) (reads-fit head p.statement row g.sound (fits-scanned head p.statement t row place.0 fits)) in
-      let key : key_within p.left row ≡ true = subst (λ xs. key_within xs row ≡ true) (sym is) refl in
+      subst (λ xs. reads_within p.statement xs row ≡ true) (sym g.columns) (reads-fit head p.statement row g.sound (fits-scanned head p.statement t row look.scanned fits)) in
+      let key : key_within p.left row ≡ true = subst (λ n. keyed_within n p.left ≡ true) (sym (row-long head t row fits)) look.keyed in
       rw (reads, key) refl
 
   -- what is shown may be told
-  pub may-tell-shown : (c : Conn) (rid : Rid) (k : Want) (fresh : Bool) → w.made ≤ 2000000 → RowsFit head w.tables
-      → MayTell p (Told.Shown (shown w c t rid k) fresh)
-  may-tell-shown c rid k fresh few fits =
-      let slot : scan_slot p.left ≡ r = ap scan_slot is in
-      let low : scan_slot p.left + 1 < 4294967296 = omega (arith, slot, place.2, few) in
+  pub may-tell-shown : (c : Conn) (k : Want) (fresh : Bool) → w.made ≤ 2000000 → RowsFit head w.tables → MayTell p (Told.Shown (shown w c t r k) fresh)
+  may-tell-shown c k fresh few fits =
+      let low : scan_slot p.left + 1 < 4294967296 = omega (arith, look.slot, few) in
       let small : haul_size p.kept + 1 < 4294967296 = omega (arith, g.few, few) in
-      (low, small, λ row e. row-suits row (shown-fits head w c t rid k row fits e))
+      (low, small, λ row e. row-suits row (shown-fits head w c t r k row fits e))

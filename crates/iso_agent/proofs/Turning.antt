@@ -5,7 +5,7 @@ use Rattle.iso_agent.proofs.Leaves.{goes-leaves, goes-may, over-leaves, stop-may
 use Rattle.iso_agent.proofs.Running.{past-from}
 use Rattle.iso_agent.proofs.Wants.{can-heard, wants-runs}
 use Rattle.iso_agent.specs.Fits.{wants}
-use Rattle.iso_agent.specs.Scans.{IsPlainAt}
+use Rattle.iso_agent.specs.Scans.{IsSoundPoint}
 use Rattle.iso_agent.specs.Steps.{HasStepped, IsWanting, act_due}
 use Rattle.iso_agent.specs.Turns.{Leaves}
 use Rattle.iso_agent.specs.declared.agent.Kept.{Kept}
@@ -65,12 +65,12 @@ module _ (head : Head) (lines : List Line) (es : List Entry) (c : Conn) (p : Poi
 
   -- a step that goes on
   pub stepped-leaves : (new : List Entry) → Ground head new → length head.conns ≤ 32 → list_all (λ f. row_fits head f.table f.row) head.rows ≡ true
-      → IsPlainAt head (world head es) p → (kept : Kept) → HasStepped head es new c (act_due head (world head es) c p) (Goes kept)
+      → IsSoundPoint head (world head es) p → (kept : Kept) → HasStepped head es new c (act_due head (world head es) c p) (Goes kept)
       → Leaves head lines new c (Some p) kept
-  stepped-leaves new g few rows plain kept stepped =
+  stepped-leaves new g few rows sound kept stepped =
       goes-leaves head lines es new c (act_due head (world head es) c p) stepped.0 conduct
       (goes-may head lines (world head es) c (point head lines es c) goes p is_ready (act_due head (world head es) c p) m) goes.1 stepped.1 p is_ready
-      kept stepped.2 stepped.3 runs (can-heard head (world head es) (world head new) c p plain made_few fits answers)
+      kept stepped.2 stepped.3 runs (can-heard head (world head es) (world head new) c p sound made_few fits answers)
     where
       m : made head (world head es) c p ≡ act_due head (world head es) c p
       m = made-of new g stepped.0

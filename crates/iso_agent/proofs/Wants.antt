@@ -1,12 +1,11 @@
 -- Where memory may be wanting for what an entry tells, its connection runs; and what it tells may be told.
-use Rattle.std.proofs.Common.{◌≡◌, ◌≤◌, Bool, true, false, ◌||◌, ◌&&◌, List, [], ◌∷◌, refl, sym, subst}
+use Rattle.std.proofs.Common.{◌≡◌, inl, inr, ◌≤◌, Bool, true, false, ◌||◌, ◌&&◌, List, [], ◌∷◌, refl, sym, subst}
 use Rattle.std.specs.List.{list_any}
-use Rattle.iso_agent.proofs.LookMade.{heard-shows, is_look, made-look}
-use Rattle.iso_agent.proofs.ScanSteps.{is_shown}
-use Rattle.iso_agent.proofs.ScansAlong.{look-left}
+use Rattle.iso_agent.proofs.LookMade.{IsScanStep, heard-shows, made-look, steps_scan}
+use Rattle.iso_agent.proofs.ScanSteps.{looking, tells_scan}
 use Rattle.iso_agent.proofs.ShownRows.{may-tell-shown}
 use Rattle.iso_agent.specs.Fits.{CanTell, wants}
-use Rattle.iso_agent.specs.Scans.{IsPlainAt}
+use Rattle.iso_agent.specs.Scans.{IsSoundPoint}
 use Rattle.iso_agent.specs.Steps.{act_due}
 use Rattle.iso_conduct.specs.Answers.{AreAnswers}
 use Rattle.iso_conduct.specs.Conduct.{heard, heard_lock}
@@ -81,30 +80,34 @@ module _ (head : Head) (w v : World) (c : Conn) (p : Point) (course : CourseAt w
 
 -- ---- what may be told
 
-may-plain : (p : Point) (t : Told) → is_shown t ≡ false → MayTell p t
+may-plain : (p : Point) (t : Told) → tells_scan t ≡ false → MayTell p t
 may-plain p (Told.Shown shown fresh) e = absurd (cc)
 may-plain p _ e = tt
 
-can-by : (p : Point) (ts : List Told) → list_any is_shown ts ≡ false → AreAnswers p ts → CanTell p ts
+can-by : (p : Point) (ts : List Told) → list_any tells_scan ts ≡ false → AreAnswers p ts → CanTell p ts
 can-by p [] e a = tt
-can-by p (t ∷ ts) e a = let k = neither (is_shown t) (list_any is_shown ts) e in (a.0, may-plain p t k.0, can-by (told_point p t) ts k.1 a.1)
+can-by p (t ∷ ts) e a = let k = neither (tells_scan t) (list_any tells_scan ts) e in (a.0, may-plain p t k.0, can-by (told_point p t) ts k.1 a.1)
   where
     neither : (a b : Bool) → (a || b) ≡ false → (a ≡ false) × (b ≡ false)
     neither true b h = absurd (cc)
     neither false b h = (refl, h)
 
 -- of the step that is due at a point
-pub can-heard : (head : Head) (w v : World) (c : Conn) (p : Point) → IsPlainAt head w p → w.made ≤ 2000000 → RowsFit head w.tables
+pub can-heard : (head : Head) (w v : World) (c : Conn) (p : Point) → IsSoundPoint head w p → w.made ≤ 2000000 → RowsFit head w.tables
     → AreAnswers p (heard w v c (act_due head w c p)) → CanTell p (heard w v c (act_due head w c p))
-can-heard head w v c p g few fits answers = go (is_look (act_due head w c p)) refl
+can-heard head w v c p g few fits answers = go (steps_scan (act_due head w c p)) refl
   where
-    go : (b : Bool) → is_look (act_due head w c p) ≡ b → CanTell p (heard w v c (act_due head w c p))
-    go false e = can-by p (heard w v c (act_due head w c p)) (heard-shows w v c (act_due head w c p) e) answers
-    go true e =
-        let m = made-look head w c (row_due p) (rows_due p) (due p) e in
-        let left = look-left w p.statement p.kept p.left m.table m.rid m.want m.move_is g.within in
+    by : IsScanStep w (due p) (act_due head w c p) → CanTell p (heard w v c (act_due head w c p))
+    by (inl m) =
+        let look = looking head w p.statement p.kept p.left m.table m.rid m.want m.move_is g.within in
         subst (λ x. CanTell p (heard w v c x)) (sym m.act_is) (
           (subst (λ x. AreAnswers p (heard w v c x)) m.act_is answers).0,
-          may-tell-shown head w p g m.table m.want m.rid.0 left.0 left.1 c m.rid m.want (is_fresh_on v c (Row m.table m.rid)) few fits,
+          may-tell-shown head w p g m.table m.rid look c m.want (is_fresh_on v c (Row m.table m.rid)) few fits,
           tt,
         )
+    by (inr m) =
+        subst (λ x. CanTell p (heard w v c x)) (sym m.act_is) ((subst (λ x. AreAnswers p (heard w v c x)) m.act_is answers).0, tt, tt)
+
+    go : (b : Bool) → steps_scan (act_due head w c p) ≡ b → CanTell p (heard w v c (act_due head w c p))
+    go false e = can-by p (heard w v c (act_due head w c p)) (heard-shows w v c (act_due head w c p) e) answers
+    go true e = by (made-look head w c (row_due p) (rows_due p) (due p) e)

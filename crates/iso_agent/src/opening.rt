@@ -71,7 +71,6 @@ fn begin_at(
 pub fn open(alloc: Global, script: &Script, parts: &Parts, conn: Conn) -> Result<Task, Memory>
     requires stands { StandsFor parts.now }
     requires head { parts.now.head ≡ script.now.head }
-    requires plain { length parts.now.head.indexes ≡ 0 } // keys come next
     requires sound { IsSound script.now }
     requires conn { conn.0 < length parts.now.head.conns }
     requires running { phase (world_of parts.now) conn ≡ Phase.Running }
@@ -91,7 +90,6 @@ fn opened_task(
 ) -> Result<Task, Memory>
     requires stands { StandsFor parts.now }
     requires head { parts.now.head ≡ script.now.head }
-    requires plain { length parts.now.head.indexes ≡ 0 } // keys come next
     requires sound { IsSound script.now }
     requires conn { conn.0 < length parts.now.head.conns }
     requires there { (phase (world_of parts.now) conn ≡ Phase.Running) ⊎ (is_some task ≡ true) }
@@ -115,7 +113,6 @@ pub fn ready_task(
 ) -> Result<Task, Memory>
     requires stands { StandsFor parts.now }
     requires head { parts.now.head ≡ script.now.head }
-    requires plain { length parts.now.head.indexes ≡ 0 } // keys come next
     requires sound { IsSound script.now }
     requires conn { conn.0 < length parts.now.head.conns }
     requires goes { GoesOn (world_of parts.now) conn }

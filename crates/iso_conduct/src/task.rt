@@ -15,10 +15,11 @@ use iso_types::{Conn, Desk, Head, Memory, Row, Rows};
 use std::alloc::Global;
 use std::marker::Model;
 
-/// One statement at one point of its conduct; it keeps its own copy of what it needs of the statement.
+/// One statement at one point of its conduct; it keeps its own copy of what it needs of the statement. It is one pointer, so
+/// that an agent hands it on at each entry without a copy.
 #[derive(Drop)]
 pub struct Task {
-    course: Course,
+    course: Box<Course>,
 }
 
 impl Model for Task {
@@ -31,9 +32,9 @@ impl Model for Task {
 
     ghost coded = { Prim.hlevel (codes, condition.the_row.coded) };
 
-    ghost view = { λ t. point_of t.course };
+    ghost view = { λ t. point_of t.course.value };
 
-    ghost invariant = { λ t. IsSound t.course };
+    ghost invariant = { λ t. IsSound t.course.value };
 }
 
 impl Task {
@@ -50,7 +51,9 @@ impl Task {
         ensures { IfOk result (λ t. t ≡ start_point head.now conn (setting_of desk.now) desk.now.start statement.now) }
     {
         let course = first_course(alloc, statement, head, conn, desk)?;
-        Ok(Task { course })
+        Ok(Task {
+            course: Box::new(alloc, course)?,
+        })
     }
 
     /// The next step. It takes no memory and constant time.

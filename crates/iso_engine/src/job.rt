@@ -3,7 +3,6 @@ ghost use Rattle.std.specs.Fmt.{decimal};
 ghost use Rattle.std.specs.Io.KnownBytes.{Appends, Consumes, IsAtEnd};
 ghost use Rattle.iso_engine.specs.Job.{IsAnswered, IsComplete, IsOutcome, IsRefusal, IsRow, IsScript, IsTold, TellsRefusal, IsWritten, refusal_at, texts, usage};
 ghost use Rattle.iso_io.specs.Moves.{AppendsPart, HasRisen};
-ghost use Rattle.iso_script.specs.Built.{IsBuilt};
 ghost use Rattle.iso_script.specs.Reading.{place_at, word_of};
 ghost use Rattle.iso_script.specs.Sound.{IsSound};
 ghost use Rattle.iso_engine.specs.Stopping as stopping;
@@ -118,7 +117,6 @@ fn stops_for_memory(act: &Act) -> bool
 /// Runs a script and writes its transcript.
 fn run_script<K: Sink>(alloc: Global, script: &Script, sink: &mut K) -> Report
     requires sound { IsSound script.now }
-    requires built { IsBuilt script.now }
     ensures told { IsTold script.now result.status result.history.items (K.held sink.old) (K.held sink.new) }
     ensures fault { result.status ≡ 4 → HasRisen (K.faults sink.old) (K.faults sink.new) }
 {

@@ -1,40 +1,50 @@
--- The line of a number, among lines whose numbers rise.
-use Rattle.std.proofs.Common.{refl, length, ◌≡◌, ℕ, ◌+◌, ◌≤◌, List, [], ◌∷◌, true, false, arith, zero, suc, Some, ap, subst, ◌∙◌}
-use Rattle.std.proofs.lemmas.Bool.{and_parts, leb-true, ne_eqb, eq-eqb}
-use Rattle.std.specs.Prelude.{◌==◌, find, slice_get, slice_set}
+-- The lines that a history has passed, and the first line of a number behind them.
+use Rattle.std.proofs.Common.{refl, length, ◌≡◌, ℕ, ◌+◌, ◌≤◌, ◌<◌, List, [], ◌∷◌, true, false, arith, zero, suc, Some, ap, subst, ◌∙◌, drop}
+use Rattle.std.proofs.lemmas.Bool.{and_parts, lt-ltb, ltb-true, ne_eqb}
+use Rattle.std.specs.Prelude.{◌==◌, ◌&&◌, nat_lt, slice_index_or, slice_set}
+use Rattle.iso_render.specs.Opened.{are_below, changes_at}
 use Rattle.iso_script.specs.declared.script.Line.{Line}
-use Rattle.iso_render.specs.Opened.{are_rising}
 
-above_both : (a b c : ℕ) → a ≤ b → b + 1 ≤ c → a ≤ c
-above_both a b c h k = omega arith
+-- lower numbers than one are lower than a greater one
+pub below-more : (lines : List Line) (at m n : ℕ) → m ≤ n → are_below lines at m ≡ true → are_below lines at n ≡ true
+below-more [] at m n le h = refl
+below-more (l ∷ ls) zero m n le h = refl
+below-more (l ∷ ls) (suc at) m n le h =
+    let lt : l.number < m = ltb-true _ _ ((and_parts _ _ h).0) in
+    let here : nat_lt l.number n ≡ true = lt-ltb _ _ (omega (arith, lt, le)) in
+    rw here (below-more ls at m n le ((and_parts _ _ h).1))
 
-differs : (a b c : ℕ) → a + 1 ≤ b → b ≡ c → (a == c) ≡ false
-differs a b c h e = ne_eqb _ _ (λ s. omega arith)
+-- before the first line there is none
+pub none-below : (lines : List Line) (n : ℕ) → are_below lines zero n ≡ true
+none-below [] n = refl
+none-below (l ∷ ls) n = refl
 
--- no number is below the least
-pub at_least_there : (least : ℕ) (lines : List Line) (i : ℕ) (l : Line) → are_rising least lines ≡ true
-    → slice_get lines i ≡ Some l → least ≤ l.number
-at_least_there least [] i l r g = cc
-at_least_there least (x ∷ xs) zero l r g =
-    let e : x ≡ l = cc in
-    let h : least ≤ x.number = leb-true _ _ ((and_parts _ _ r).0) in
-    subst (λ (y : Line). least ≤ y.number) e h
-at_least_there least (x ∷ xs) (suc i) l r g =
-    let h : least ≤ x.number = leb-true _ _ ((and_parts _ _ r).0) in
-    above_both _ _ _ h (at_least_there (x.number + 1) xs i l ((and_parts _ _ r).1) g)
+one-more : (lines : List Line) (at n : ℕ) (d : Line) → at < length lines → (slice_index_or lines at d).number < n → are_below lines at n ≡ true
+    → are_below lines (suc at) n ≡ true
+one-more [] at n d in-range lt h = refl
+one-more (x ∷ xs) zero n d in-range lt h =
+    let here : nat_lt x.number n ≡ true = lt-ltb _ _ lt in
+    ap (λ b. b && are_below xs zero n) here ∙ none-below xs n
+one-more (x ∷ xs) (suc at) n d in-range lt h =
+    let here : nat_lt x.number n ≡ true = (and_parts _ _ h).0 in
+    ap (λ b. b && are_below xs (suc at) n) here ∙ one-more xs at n d (omega (arith, in-range)) lt ((and_parts _ _ h).1)
 
--- a line that has the number is the one that is found
-pub found_there : (least : ℕ) (lines : List Line) (i : ℕ) (l : Line) (number : ℕ) → are_rising least lines ≡ true
-    → slice_get lines i ≡ Some l → l.number ≡ number → find (λ y. y.number == number) lines ≡ Some l
-found_there least [] i l number r g e = cc
-found_there least (x ∷ xs) zero l number r g e =
-    let same : x ≡ l = cc in
-    let n : x.number ≡ number = ap (λ (y : Line). y.number) same ∙ e in
-    rw (eq-eqb _ _ n) g
-found_there least (x ∷ xs) (suc i) l number r g e =
-    let later : are_rising (x.number + 1) xs ≡ true = (and_parts _ _ r).1 in
-    let other : (x.number == number) ≡ false = differs _ _ _ (at_least_there (x.number + 1) xs i l later g) e in
-    rw other (found_there (x.number + 1) xs i l number later g e)
+-- one line more is passed
+pub below-next : (lines : List Line) (at n : ℕ) (d : Line) → at < length lines → (slice_index_or lines at d).number < n → are_below lines at n ≡ true
+    → are_below lines (at + 1) n ≡ true
+below-next lines at n d in-range lt h =
+    let same : suc at ≡ at + 1 = omega arith in
+    subst (λ k. are_below lines k n ≡ true) same (one-more lines at n d in-range lt h)
+
+-- no line that is passed has the number
+pub changes-behind : (lines : List Line) (at n : ℕ) → are_below lines at n ≡ true → changes_at lines n ≡ changes_at (drop at lines) n
+changes-behind [] zero n h = refl
+changes-behind [] (suc at) n h = refl
+changes-behind (x ∷ xs) zero n h = refl
+changes-behind (x ∷ xs) (suc at) n h =
+    let lt : x.number < n = ltb-true _ _ ((and_parts _ _ h).0) in
+    let other : (x.number == n) ≡ false = ne_eqb _ _ (λ s. omega (arith, lt, s)) in
+    rw other (changes-behind xs at n ((and_parts _ _ h).1))
 
 -- a write past the end leaves the list as it is
 pub set_past : {X : Type 0} (xs : List X) (i : ℕ) (y : X) → length xs ≤ i → slice_set xs i y ≡ xs

@@ -1,6 +1,6 @@
 -- The statement that each connection has open. // this project's own
 use Rattle.std.specs.Option.{option_map_or}
-use Rattle.std.specs.Prelude.{ℕ, Bool, true, false, List, ◌+◌, ◌==◌, ◌&&◌, nat_le, [], ◌∷◌, find, length, replicate, slice_index_or, slice_set}
+use Rattle.std.specs.Prelude.{◌≡◌, ℕ, ◌≤◌, zero, suc, Bool, true, false, List, ◌==◌, ◌&&◌, nat_lt, [], ◌∷◌, find, length, replicate, slice_index_or, slice_set}
 use Rattle.iso_history.specs.declared.entry.Act.{Act}
 use Rattle.iso_history.specs.declared.entry.Act.TheVariants.{Dispatch}
 use Rattle.iso_script.specs.declared.script.Line.{Line}
@@ -10,6 +10,7 @@ use Rattle.iso_sql.specs.declared.statement.Statement.{Statement}
 use Rattle.iso_sql.specs.declared.statement.Statement.TheVariants.{Delete, Insert, Update}
 use Rattle.iso_types.specs.declared.value.Conn.{Conn}
 use Rattle.iso_render.specs.declared.opened.OpenLine.{OpenLine}
+use Rattle.iso_render.specs.declared.opened.Passed.{Passed}
 
 -- the statement is an INSERT, an UPDATE or a DELETE
 abbrev pub is_change : Statement → Bool
@@ -27,10 +28,15 @@ is_change_line _ = false
 abbrev pub changes_at : List Line → ℕ → Bool
 changes_at lines number = option_map_or (λ l. is_change_line l.what) (find (λ l. l.number == number) lines) false
 
--- each line's number is at least so much, and greater than the one before it
-abbrev pub are_rising : ℕ → List Line → Bool
-are_rising least [] = true
-are_rising least (l ∷ lines) = nat_le least l.number && are_rising (l.number + 1) lines
+-- each line before this place has a number less than this one
+abbrev pub are_below : List Line → ℕ → ℕ → Bool
+are_below [] at below = true
+are_below (l ∷ lines) zero below = true
+are_below (l ∷ lines) (suc at) below = nat_lt l.number below && are_below lines at below
+
+-- the lines that are passed are there, and have lower numbers
+abbrev pub IsPassed : List Line → Passed → Type 0
+IsPassed lines p = (p.at ≤ length lines) × (are_below lines p.at p.below ≡ true)
 
 -- no statement yet
 abbrev pub unopened : OpenLine

@@ -1,10 +1,9 @@
-ghost use Rattle.std.specs.Prelude.{◌≡◌, ◌++◌, OnOk, IfOk, true, IsTrue};
-ghost use Rattle.iso_render.specs.Opened.{are_rising};
+ghost use Rattle.std.specs.Prelude.{◌≡◌, ◌++◌, OnOk, IfOk};
 ghost use Rattle.iso_render.specs.Transcript.{agent_text, dispatcher_text, entry_text, lock_line, lock_lines, printed, row_lines, transcript};
 
 use crate::agents::put_agent;
 use crate::names::{put_conn, put_name, state_of, word_of};
-use crate::opened::{self, OpenLine};
+use crate::opened::{self, OpenLine, Passed};
 use crate::put::{put, put_number};
 use crate::said::{cause_of, put_front};
 use iso_history::{Act, Entry, History, Who};
@@ -103,20 +102,19 @@ fn put_entry(
 fn print(alloc: Global, script: &Script, entries: &[Entry]) -> Result<Items<u8>, Memory>
     ensures { IfOk result (λ text. text ≡ transcript script.now entries.now) }
 {
-    let is_rising = opened::rises(script.lines.as_slice());
     let mut opens = opened::none_open(alloc, script)?;
-    let mut at = 0;
+    let mut passed = Passed::none();
     let mut out = Vec::new(alloc);
     for entry in entries {
         put_entry(alloc, &mut out, &script.head, &opens, entry)?;
-        opened::note(&mut opens, script, is_rising, &mut at, &entry.act);
+        opened::note(&mut opens, script, &mut passed, &entry.act);
     }
     Ok(Items::from_vec(out))
 }
 
-/// What the history of a script prints. `Memory` comes only for want of memory. It makes one pass
-/// over the history, and one over the script's lines where they rise in number and are dispatched
-/// in their order; a Dispatch of any other line searches all lines.
+/// What the history of a script prints, for any script and history. `Memory` comes only for want of memory. It makes
+/// one pass over the history, and one over the script's lines where they rise in number and are dispatched in their
+/// order, as in every run of a script that was read; a Dispatch of any other line searches all lines.
 pub fn transcript(alloc: Global, script: &Script, history: &History) -> Result<Items<u8>, Memory>
     ensures { IfOk result (λ text. text ≡ transcript script.now history.now.items) }
 {

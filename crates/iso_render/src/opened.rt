@@ -1,5 +1,7 @@
-ghost use Rattle.std.specs.Prelude.{◌≡◌, ℕ, ◌≤◌, true, length, IsTrue, ◌↔◌, IfOk};
-ghost use Rattle.iso_render.specs.Opened.{are_rising, at_first, changes_at, is_change_line, open_of, opened};
+//! The statement that each connection has open, as a history goes on.
+
+ghost use Rattle.std.specs.Prelude.{◌≡◌, ◌≤◌, IfOk};
+ghost use Rattle.iso_render.specs.Opened.{IsPassed, at_first, changes_at, is_change_line, open_of, opened};
 
 use iso_history::Act;
 use iso_script::{Line, Script, What};
@@ -28,30 +30,37 @@ fn is_change(line: &Line) -> bool
     }
 }
 
-// Whether each line has a greater number than the one before it, as in every script that is read.
-pub fn rises(lines: &[Line]) -> bool
-    ensures { IsTrue result → are_rising 0 lines.now ≡ true }
+// How far a history has come in its script: each line before the place `at` has a number less than `below`.
+#[derive(Drop)]
+pub struct Passed {
+    at: usize,
+    below: u32,
+}
+
+impl Passed {
+    // No line is passed yet.
+    pub fn none() -> Passed
+        ensures { (result.at ≡ 0) × (result.below ≡ 0) }
+    {
+        Passed { at: 0, below: 0 }
+    }
+}
+
+// Passes the lines with numbers less than this one.
+fn pass(lines: &[Line], passed: &mut Passed, number: u32)
+    requires passed { IsPassed lines.now passed.old }
+    requires rises { passed.old.below ≤ number }
+    ensures passed { IsPassed lines.now passed.new }
+    ensures below { passed.new.below ≡ number }
 {
-    let mut least = 0;
-    for line in lines {
-        let number = u64::from(line.number);
-        if number < least {
-            return false;
-        }
-        least = number + 1;
-    }
-    true
-}
-
-// Moves the place past the lines with lower numbers.
-fn skip(lines: &[Line], at: &mut usize, number: u32) {
-    while *at < lines.len() && lines[*at].number < number {
-        *at += 1;
+    passed.below = number;
+    while passed.at < lines.len() && lines[passed.at].number < number {
+        passed.at += 1;
     }
 }
 
-// Whether the line of this number has an INSERT, an UPDATE or a DELETE, by a search of all lines.
-fn changes_somewhere(lines: &[Line], number: u32) -> bool
+// Whether the first line of this number has an INSERT, an UPDATE or a DELETE.
+fn changes_among(lines: &[Line], number: u32) -> bool
     ensures { result ≡ changes_at lines.now number }
 {
     for line in lines {
@@ -62,22 +71,18 @@ fn changes_somewhere(lines: &[Line], number: u32) -> bool
     false
 }
 
-// Whether the line of this number has an INSERT, an UPDATE or a DELETE. The place moves on to it:
-// where lines rise and are asked for in their order, all calls together make one pass over them;
-// for any other line all are searched.
-fn changes_line(lines: &[Line], is_rising: bool, at: &mut usize, number: u32) -> bool
-    requires { IsTrue is_rising → are_rising 0 lines.now ≡ true }
-    ensures { result ≡ changes_at lines.now number }
+// Whether the line of this number has an INSERT, an UPDATE or a DELETE. Where lines rise and are asked for in their
+// order, all calls together make one pass over them; for a line out of order all are searched.
+fn changes_line(lines: &[Line], passed: &mut Passed, number: u32) -> bool
+    requires passed { IsPassed lines.now passed.old }
+    ensures passed { IsPassed lines.now passed.new }
+    ensures changes { result ≡ changes_at lines.now number }
 {
-    skip(lines, at, number);
-    let place = *at;
-    if is_rising && place < lines.len() {
-        let line = &lines[place];
-        if line.number == number {
-            return is_change(line);
-        }
+    if number < passed.below {
+        return changes_among(lines, number);
     }
-    changes_somewhere(lines, number)
+    pass(lines, passed, number);
+    changes_among(&lines[passed.at..], number)
 }
 
 // No statement is open yet.
@@ -93,12 +98,13 @@ pub fn none_open(alloc: Global, script: &Script) -> Result<Vec<OpenLine>, Memory
 
 // What is open after this entry.
 #[tactic(auto, using(crate::proofs::Lines::set_past))]
-pub fn note(opens: &mut [OpenLine], script: &Script, is_rising: bool, at: &mut usize, act: &Act)
-    requires { IsTrue is_rising → are_rising 0 script.now.lines ≡ true }
-    ensures { opens.new ≡ opened script.now opens.old act.now }
+pub fn note(opens: &mut [OpenLine], script: &Script, passed: &mut Passed, act: &Act)
+    requires passed { IsPassed script.now.lines passed.old }
+    ensures passed { IsPassed script.now.lines passed.new }
+    ensures opens { opens.new ≡ opened script.now opens.old act.now }
 {
     if let Act::Dispatch { line, conn } = act {
-        let changes = changes_line(script.lines.as_slice(), is_rising, at, *line);
+        let changes = changes_line(script.lines.as_slice(), passed, *line);
         let place = usize::from(conn.0);
         if place < opens.len() {
             opens[place] = OpenLine {

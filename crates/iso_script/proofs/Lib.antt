@@ -4,7 +4,6 @@ pub mod RowLaws
 pub mod Faultless
 pub mod IndexLaws
 pub mod HeadLaws
-pub mod BuiltLaws
 pub mod NumberLaws
 pub mod SoundLaws
 pub mod Exact

@@ -19,7 +19,6 @@ use Rattle.iso_script.specs.Advance.{advance}
 use Rattle.iso_script.specs.Rules.{rule}
 use Rattle.iso_script.specs.Reading.{cause_of, fits, wrong, IsMisspelt, IsFaulty, ReadsFrom, BadFrom, Refuses, start}
 use Rattle.iso_script.specs.Steps.{verdict, LineAnswers}
-use Rattle.iso_script.specs.Unbuilt.{is_built}
 use Rattle.iso_script.proofs.RuleLaws.{rule_meaning, rule_way, rule_apart, rule_place}
 
 -- what a line comes to is so
@@ -30,15 +29,10 @@ Judges s line (Err why) = wrong s line why
 abbrev Says : Reader → List ℕ → Checked Event → Type 0
 Says s line c = rule s.place s line (tokens line) c
 
-judges_built : (s : Reader) (line : List ℕ) (e : Event) (b : Bool) → is_built e ≡ b → Says s line (checked e None) → Judges s line (cond b (Ok e) (Err cause.Unbuilt))
-unfolding Judges
-judges_built s line e true is l = (l, is)
-judges_built s line e false is l = inr (inr (e, l, is, refl))
-
 judges_fault : (s : Reader) (line : List ℕ) (e : Event) (o : Option Fault) → Says s line (checked e o) → Judges s line (verdict (checked e o))
 unfolding Judges
-judges_fault s line e (Some f) l = inr (inl (e, f, l, refl))
-judges_fault s line e None l = judges_built s line e (is_built e) refl l
+judges_fault s line e (Some f) l = inr (e, f, l, refl)
+judges_fault s line e None l = l
 
 judges : (s : Reader) (line : List ℕ) (c : Checked Event) → Says s line c → Judges s line (verdict c)
 judges s line c l = judges_fault s line c.value c.fault l
@@ -78,9 +72,6 @@ no_some f e = cc
 same_some : (f h : Fault) → Some f ≡ Some h → f ≡ h
 same_some f h e = cc
 
-no_both : (b : Bool) → b ≡ true → b ≡ false → ⊥
-no_both b p q = cc
-
 module _ (s : Reader) (line : List ℕ) where
   same : (c d : Checked Event) → Says s line c → Says s line d → c ≡ d
   same c d a b = rule_meaning s.place s line (tokens line) c d a b
@@ -98,50 +89,34 @@ module _ (s : Reader) (line : List ℕ) where
 
   apart : (e : Event) (why : LineCause) → fits s line e → wrong s line why → ⊥
   apart e why f w = elim w [
-    | inl m ↦ rule_apart s.place s line (tokens line) (checked e None) m.0 f.0 m.1
-    | inr o ↦ elim o [
-      | inl m ↦ no_some m.1 (fault_is (checked e None) (checked m.0 (Some m.1)) (same (checked e None) (checked m.0 (Some m.1)) f.0 m.2))
-      | inr u ↦ no_both (is_built e) f.1 (ap is_built (value_is (checked e None) (checked u.0 None) (same (checked e None) (checked u.0 None) f.0 u.1)) ∙ u.2)
-    ]
+    | inl m ↦ rule_apart s.place s line (tokens line) (checked e None) m.0 f m.1
+    | inr m ↦ no_some m.1 (fault_is (checked e None) (checked m.0 (Some m.1)) (same (checked e None) (checked m.0 (Some m.1)) f m.2))
   ]
 
   misspelt_once : (a b : LineCause) → IsMisspelt s line a → wrong s line b → a ≡ b
   misspelt_once a b m w = elim w [
     | inl n ↦ m.2 ∙ ap (λ k. cause.Syntax (place_of (tokens line) k (length line))) (rule_place s.place s line (tokens line) m.0 n.0 m.1 n.1) ∙ sym n.2
-    | inr o ↦ elim o [
-      | inl n ↦ absurd (rule_apart s.place s line (tokens line) (checked n.0 (Some n.1)) m.0 n.2 m.1)
-      | inr u ↦ absurd (rule_apart s.place s line (tokens line) (checked u.0 None) m.0 u.1 m.1)
-    ]
+    | inr n ↦ absurd (rule_apart s.place s line (tokens line) (checked n.0 (Some n.1)) m.0 n.2 m.1)
   ]
 
   faulty_once : (a b : LineCause) → IsFaulty s line a → wrong s line b → a ≡ b
   faulty_once a b m w = elim w [
-    | inl n ↦ sym (misspelt_once b a n (inr (inl m)))
-    | inr o ↦ elim o [
-      | inl n ↦ m.3 ∙ ap cause_of (same_some m.1 n.1 (fault_is (checked m.0 (Some m.1)) (checked n.0 (Some n.1)) (same (checked m.0 (Some m.1)) (checked n.0 (Some n.1)) m.2 n.2))) ∙ sym n.3
-      | inr u ↦ absurd (no_some m.1 (fault_is (checked u.0 None) (checked m.0 (Some m.1)) (same (checked u.0 None) (checked m.0 (Some m.1)) u.1 m.2)))
-    ]
+    | inl n ↦ sym (misspelt_once b a n (inr m))
+    | inr n ↦
+        m.3 ∙ ap cause_of (same_some m.1 n.1 (fault_is (checked m.0 (Some m.1)) (checked n.0 (Some n.1))
+        (same (checked m.0 (Some m.1)) (checked n.0 (Some n.1)) m.2 n.2))) ∙ sym n.3
   ]
 
   once : (a b : LineCause) → wrong s line a → wrong s line b → a ≡ b
   once a b v w = elim v [
     | inl m ↦ misspelt_once a b m w
-    | inr o ↦ elim o [
-      | inl m ↦ faulty_once a b m w
-      | inr u ↦ elim w [
-        | inl n ↦ sym (misspelt_once b a n (inr (inr u)))
-        | inr p ↦ elim p [
-          | inl n ↦ sym (faulty_once b a n (inr (inr u)))
-          | inr t ↦ u.3 ∙ sym t.3
-        ]
-      ]
-    ]
+    | inr m ↦ faulty_once a b m w
   ]
 
 pub line-exact : (s : Reader) (line : List ℕ) → IsExact (fits s line) (wrong s line)
 line-exact s line = record {
   way = way s line;
-  event = λ d e a b. value_is (checked d None) (checked e None) (same s line (checked d None) (checked e None) a.0 b.0);
+  event = λ d e a b. value_is (checked d None) (checked e None) (same s line (checked d None) (checked e None) a b);
   fault = once s line;
   apart = apart s line;
 }

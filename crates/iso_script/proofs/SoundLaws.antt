@@ -214,7 +214,7 @@ lines_sound (line ∷ texts) s n end h r = go (is_skipped line) r (λ t h r. lin
   where
     go : (v : Bool) → MatchBool v (ReadsFrom s (n + 1) texts end) ((e : Event) × fits s line e × ReadsFrom (advance s n e) (n + 1) texts end) → ((t : Reader) → Sound t → ReadsFrom t (n + 1) texts end → Sound end) → Sound end
     go true r later = later s h r
-    go false r later = later (advance s n r.0) (step_sound s.place s n line (tokens line) r.0 h refl r.1.0) r.2
+    go false r later = later (advance s n r.0) (step_sound s.place s n line (tokens line) r.0 h refl r.1) r.2
 
 start-sound : Sound start
 start-sound = record {

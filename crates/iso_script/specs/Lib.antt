@@ -1,11 +1,9 @@
-pub mod Built
 pub mod Numbered
 pub mod Naming
 pub mod Events
 pub mod Keyed
 pub mod Rules
 pub mod Advance
-pub mod Unbuilt
 pub mod Sound
 pub mod Reading
 pub mod RuleReading

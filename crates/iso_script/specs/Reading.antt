@@ -20,11 +20,10 @@ use Rattle.iso_script.specs.declared.fault.ScriptFault.{ScriptFault}
 use Rattle.iso_script.specs.declared.fault.ScriptFault.TheVariants as fault
 use Rattle.iso_script.specs.Advance.{advance}
 use Rattle.iso_script.specs.Rules.{rule}
-use Rattle.iso_script.specs.Unbuilt.{is_built}
 
--- the line is this event in this state: it says so without a fault, and it is built
+-- the line is this event in this state: it says so without a fault
 abbrev pub fits : Reader → List ℕ → Event → Type 0
-fits s line e = rule s.place s line (tokens line) (checked e None) × (is_built e ≡ true)
+fits s line e = rule s.place s line (tokens line) (checked e None)
 
 -- the cause of a fault, with its place
 abbrev pub cause_of : Fault → LineCause
@@ -37,7 +36,6 @@ word_of (cause.Unknown place) = codes "UNKNOWN"
 word_of (cause.TypeFault place) = codes "TYPE"
 word_of (cause.Duplicate place) = codes "DUPLICATE"
 word_of (cause.Limit place) = codes "LIMIT"
-word_of cause.Unbuilt = codes "UNBUILT"
 
 -- where it stands, in bytes of its line from 1
 abbrev pub place_at : LineCause → ℕ
@@ -46,7 +44,6 @@ place_at (cause.Unknown place) = place
 place_at (cause.TypeFault place) = place
 place_at (cause.Duplicate place) = place
 place_at (cause.Limit place) = place
-place_at cause.Unbuilt = 1
 
 -- its tokens begin no line of this position, from the first token on at which they do not
 abbrev pub IsMisspelt : Reader → List ℕ → LineCause → Type 0
@@ -56,13 +53,9 @@ IsMisspelt s line why = (left : ℕ) × StopsAt (rule s.place s line) (tokens li
 abbrev pub IsFaulty : Reader → List ℕ → LineCause → Type 0
 IsFaulty s line why = (e : Event) × (f : Fault) × rule s.place s line (tokens line) (checked e (Some f)) × (why ≡ cause_of f)
 
--- it is a line of this position without a fault, and not built yet
-abbrev pub IsUnbuilt : Reader → List ℕ → LineCause → Type 0
-IsUnbuilt s line why = (e : Event) × rule s.place s line (tokens line) (checked e None) × (is_built e ≡ false) × (why ≡ cause.Unbuilt)
-
 -- what is wrong with the line in this state
 abbrev pub wrong : Reader → List ℕ → LineCause → Type 0
-wrong s line why = IsMisspelt s line why ⊎ (IsFaulty s line why ⊎ IsUnbuilt s line why)
+wrong s line why = IsMisspelt s line why ⊎ IsFaulty s line why
 
 -- END was read
 abbrev pub is_ended : Reader → Bool

@@ -1,9 +1,7 @@
 -- What taking one line answers.
-use Rattle.std.specs.Prelude.{◌≡◌, ℕ, false, if◌then◌else◌, List, Some, None, Result, Ok, Err, MatchBool}
+use Rattle.std.specs.Prelude.{◌≡◌, ℕ, false, List, Some, None, Result, Ok, Err, MatchBool}
 use Rattle.iso_grammar.specs.declared.fault.Checked.{Checked}
 use Rattle.iso_script.specs.declared.fault.LineCause.{LineCause}
-use Rattle.iso_script.specs.declared.fault.LineCause.TheVariants as cause
-use Rattle.iso_script.specs.Unbuilt.{is_built}
 use Rattle.iso_grammar.specs.Lex.{is_skipped}
 use Rattle.iso_script.specs.declared.event.Event.{Event}
 use Rattle.iso_script.specs.declared.reader.Reader.{Reader}
@@ -14,7 +12,7 @@ use Rattle.iso_script.specs.Reading.{cause_of, fits, wrong}
 
 -- what a line comes to that says this with this least fault
 abbrev pub verdict : Checked Event → Result Event LineCause
-verdict c = elim c.fault [ Some f ↦ Err (cause_of f) | None ↦ (if is_built c.value then Ok c.value else Err cause.Unbuilt) ]
+verdict c = elim c.fault [ Some f ↦ Err (cause_of f) | None ↦ Ok c.value ]
 
 -- the line's event, or its fault
 abbrev pub EventAnswers : Reader → List ℕ → ℕ → Result Event ScriptFault → Type 0

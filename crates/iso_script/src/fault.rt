@@ -8,7 +8,7 @@ use iso_types::Memory;
 use thiserror::Error;
 
 /// What is wrong with a line, with the place in bytes from 1. A line has one cause: the syntax comes first, then of its
-/// faults the least one (by place, and at one place in the order in which they stand here), and `Unbuilt` last.
+/// faults the least one (by place, and at one place in the order in which they stand here).
 #[derive(Clone, Copy, PartialEq, Eq, Debug, Error)]
 pub enum LineCause {
     /// The first token with which the line begins no line of the grammar in this position; one more than the line's
@@ -27,9 +27,6 @@ pub enum LineCause {
     /// A passed limit: at its token, or for what is counted at place 1.
     #[error("LIMIT AT {0}")]
     Limit(u32),
-    /// A line of the grammar that this stage of the project does not run yet.
-    #[error("UNBUILT AT 1")]
-    Unbuilt,
 }
 
 /// Why a script was not read: its first bad line, by its number from 1, or want of memory.
@@ -55,8 +52,8 @@ impl From<Memory> for ScriptFault {
 }
 
 impl LineCause {
-    /// The word for it in the line that refuses a script, and its place there, in bytes of the bad line from 1; what is not
-    /// built stands at place 1. No memory. The words are this project's own.
+    /// The word for it in the line that refuses a script, and its place there, in bytes of the bad line from 1. No memory. The
+    /// words are this project's own.
     pub fn word_and_place(self) -> (&'static str, u32)
         ensures word { result.0.now ≡ spec.word_of self }
         ensures place { result.1 ≡ spec.place_at self }
@@ -67,7 +64,6 @@ impl LineCause {
             LineCause::TypeFault(place) => ("TYPE", place),
             LineCause::Duplicate(place) => ("DUPLICATE", place),
             LineCause::Limit(place) => ("LIMIT", place),
-            LineCause::Unbuilt => ("UNBUILT", 1),
         }
     }
 }

@@ -12,7 +12,6 @@ mod read;
 mod reader;
 mod rules;
 mod script;
-mod unbuilt;
 mod words;
 
 pub use fault::{LineCause, ScriptFault};

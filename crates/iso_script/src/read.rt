@@ -2,7 +2,6 @@
 
 ghost use Rattle.std.specs.Prelude.{◌≡◌, ◌≤◌, ◌⊎◌, ℕ, List, length, IfOk, IfErr, true};
 ghost use Rattle.iso_grammar.specs.Lines.{lines};
-ghost use Rattle.iso_script.specs.Built.{IsBuilt};
 ghost use Rattle.iso_script.specs.Numbered.{rises_above};
 ghost use Rattle.iso_script.specs.Sound.{IsSound};
 ghost use Rattle.iso_script.specs.Reading as spec;
@@ -45,11 +44,10 @@ fn read_lines(alloc: Global, bytes: &[u8]) -> Result<Reader, ScriptFault>
 impl Script {
     /// Reads a script of at most 1,048,576 bytes: its first line, head lines in any order, BEGIN, body lines, END.
     ///
-    /// `BadLine` names the first line that is no line of the grammar in its position, or has a fault, or is not built
-    /// yet, with its cause and place; a missing END is `Syntax(1)` of the line after the last. `Memory` is want of
-    /// memory.
+    /// `BadLine` names the first line that is no line of the grammar in its position, or has a fault, with its cause and
+    /// place; a missing END is `Syntax(1)` of the line after the last. `Memory` is want of memory.
     ///
-    /// A script that is read is sound, whether or not this stage runs it: the settings lie within their bounds; the tables,
+    /// A script that is read is sound: the settings lie within their bounds; the tables,
     /// columns, indexes and connections are no more than their limits and their names differ; each row fits its table, each
     /// index stands on a NOT NULL column and no unique one has a key twice; each statement is one that the head allows, by a
     /// connection of the head; the numbers of the lines rise.
@@ -60,7 +58,6 @@ impl Script {
     pub fn read(alloc: Global, bytes: &[u8]) -> Result<Script, ScriptFault>
         requires { length bytes.now ≤ 1048576 }
         ensures read { IfOk result (λ s. spec.reads bytes.now s) }
-        ensures built { IfOk result (λ s. IsBuilt s) }
         ensures rising { IfOk result (λ s. rises_above 0 s.lines ≡ true) }
         ensures sound { IfOk result (λ s. IsSound s) }
         ensures refused { IfErr result (λ e. spec.Refuses bytes.now e) }
@@ -76,7 +73,6 @@ pub fn exactly_one()
     ensures not_both { (bytes : List ℕ) (s : told.Script) (n : ℕ) (why : Why) → spec.reads bytes s → spec.bad bytes n why → ⊥ }
     ensures one_script { (bytes : List ℕ) (s t : told.Script) → spec.reads bytes s → spec.reads bytes t → s ≡ t }
     ensures one_bad { (bytes : List ℕ) (m n : ℕ) (v w : Why) → spec.bad bytes m v → spec.bad bytes n w → (m ≡ n) × (v ≡ w) }
-    ensures built { (bytes : List ℕ) (s : told.Script) → spec.reads bytes s → IsBuilt s }
     ensures sound { (bytes : List ℕ) (s : told.Script) → spec.reads bytes s → IsSound s }
     ensures rising { (bytes : List ℕ) (s : told.Script) → spec.reads bytes s → rises_above 0 s.lines ≡ true }
 {}

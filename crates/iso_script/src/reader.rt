@@ -9,7 +9,6 @@ ghost use Rattle.iso_script.specs.declared.event.Event.TheVariants as event;
 use crate::event::{Event, Setting, Settings};
 use crate::fault::{LineCause, cause_of};
 use crate::script::{Line, Script, What};
-use crate::unbuilt::is_built;
 use iso_grammar::Checked;
 use iso_types::{Config, Conn, Head, Items, Memory};
 use std::alloc::Global;
@@ -80,10 +79,7 @@ pub fn verdict(found: Checked<Event>) -> Result<Event, LineCause>
     if let Some(fault) = found.fault {
         return Err(cause_of(fault));
     }
-    if is_built(&found.value) {
-        return Ok(found.value);
-    }
-    Err(LineCause::Unbuilt)
+    Ok(found.value)
 }
 
 impl Reader {

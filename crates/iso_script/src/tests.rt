@@ -14,12 +14,12 @@ const LEAST: &[u8] = b"DB2ISO 1\nBEGIN\nEND\n";
 const LOOSE: &[u8] =
     b"-- a script\r\n\r\ndb2iso\t01\r\nconfig cur_commit Disabled\r\n \t \r\nTable t(id Integer not null,b bigint, v varchar(32))\r\nROW T (1, -9223372036854775808, 'it''s 32 bytes, with doubled ''''x''')\r\nrow t(-7,NULL,null)\r\n\tConnect a Ur\r\nTABLE LATER (N INTEGER)\r\nTABLE ABCDEFGHIJKLMNOPQRSTUVWXYZ123456 (A INTEGER, B INTEGER, C INTEGER, D INTEGER, E INTEGER, F INTEGER, G INTEGER, H INTEGER)\r\nbegin\r\n-- a body line\r\na : Insert into t values (7, 0, 'x''y') ;\r\nA:SELECT ID FROM T WHERE NOT B=7 AND v IS NULL with ur\r\nA:select count ( * ) from later where n between -1 and 1 with ur;\r\nA: COMMIT WORK\r\nend\r\n\r\n--";
 
-// Two connections, a line behind `&`, and EXPIRE.
+// Two connections, an index, the level RR, a line behind `&`, EXPIRE and SNAPSHOT.
 const SEVERAL: &[u8] =
-    b"DB2ISO 1\nCONFIG LOCKLIST 4\nCONNECT A RS\nCONNECT B\nTABLE T (N INTEGER)\nBEGIN\n& A: UPDATE T SET N = 1\nB: ROLLBACK\nEXPIRE A\nEND\n";
+    b"DB2ISO 1\nCONFIG LOCKLIST 4\nCONNECT A RR\nCONNECT B\nTABLE T (N INTEGER NOT NULL)\nUNIQUE INDEX I ON T (N)\nBEGIN\n& A: UPDATE T SET N = 1 WITH RR\nB: ROLLBACK\nEXPIRE A\nSNAPSHOT\nEND\n";
 
 // Head lines, and what is wrong with the last of them. The first line and its table are written before them.
-const HEADS: [(&[u8], LineCause); 37] = [
+const HEADS: [(&[u8], LineCause); 35] = [
     (b"TABLE", LineCause::Syntax(6)),
     (b"TABLE T (ID INTEGER", LineCause::Syntax(20)),
     (b"TABLE T (ID INTEGER NOT)", LineCause::Syntax(24)),
@@ -50,7 +50,6 @@ const HEADS: [(&[u8], LineCause); 37] = [
         b"TABLE X (A INTEGER, B INTEGER, C INTEGER, D INTEGER, E INTEGER, F INTEGER, G INTEGER, H INTEGER, I INTEGER)",
         LineCause::Limit(1),
     ),
-    (b"CONNECT A RR", LineCause::Unbuilt),
     (b"ROW NOSUCH (1)", LineCause::Unknown(5)),
     (
         b"ROW ABCDEFGHIJKLMNOPQRSTUVWXYZ1234567 (1)",
@@ -68,11 +67,10 @@ const HEADS: [(&[u8], LineCause); 37] = [
     (b"INDEX I ON T (V)", LineCause::TypeFault(15)),
     (b"INDEX I ON NOSUCH (V)", LineCause::Unknown(12)),
     (b"INDEX I ON T (X)", LineCause::Unknown(15)),
-    (b"UNIQUE INDEX I ON T (ID)", LineCause::Unbuilt),
 ];
 
 // Whole scripts, with their first bad line and its cause.
-const REFUSED: [(&[u8], u32, LineCause); 25] = [
+const REFUSED: [(&[u8], u32, LineCause); 21] = [
     (
         b"DB2ISO 1\nCONNECT A\nBEGIN\nA: SELECT * FROM T\nEND\n",
         4,
@@ -97,16 +95,6 @@ const REFUSED: [(&[u8], u32, LineCause); 25] = [
         b"DB2ISO 1\nTABLE T (N INTEGER)\nCONNECT A\nBEGIN\nB: INSERT INTO T VALUES ('x')\n",
         5,
         LineCause::Unknown(1),
-    ),
-    (
-        b"DB2ISO 1\nTABLE T (N INTEGER)\nCONNECT A\nBEGIN\nA: SELECT N FROM T WITH RR\n",
-        5,
-        LineCause::Unbuilt,
-    ),
-    (
-        b"DB2ISO 1\nTABLE T (N INTEGER)\nCONNECT A\nBEGIN\nA: SET ISOLATION RR\n",
-        5,
-        LineCause::Unbuilt,
     ),
     (
         b"DB2ISO 1\nTABLE T (N VARCHAR(32))\nCONNECT A\nBEGIN\nA: INSERT INTO T VALUES ('a\rb')\n",
@@ -134,11 +122,6 @@ const REFUSED: [(&[u8], u32, LineCause); 25] = [
         LineCause::Duplicate(9),
     ),
     (
-        b"DB2ISO 1\nCONNECT A\nCONNECT B RR\n",
-        3,
-        LineCause::Unbuilt,
-    ),
-    (
         b"DB2ISO 1\nTABLE T (N INTEGER NOT NULL)\nROW T (5)\nROW T (5)\n UNIQUE INDEX I ON T (N)\n",
         5,
         LineCause::Duplicate(2),
@@ -157,11 +140,6 @@ const REFUSED: [(&[u8], u32, LineCause); 25] = [
         b"DB2ISO 1\nCONNECT A\nBEGIN\nEXPIRE B\n",
         4,
         LineCause::Unknown(8),
-    ),
-    (
-        b"DB2ISO 1\nCONNECT A\nBEGIN\nSNAPSHOT\n",
-        4,
-        LineCause::Unbuilt,
     ),
     (
         b"DB2ISO 1\nCONNECT A\nBEGIN\nA COMMIT\n",
@@ -259,7 +237,7 @@ fn refuses_tables(alloc: Global) -> bool {
     }
 }
 
-// Takes a line whether or not it is built, or else says why it is refused.
+// Takes a line, or else says why it is refused.
 fn comes_to(
     alloc: Global,
     progress: &mut Progress,
@@ -283,7 +261,7 @@ fn comes_to(
     }
 }
 
-// Whether a line has no fault; it is taken then, whether or not it is built.
+// Whether a line has no fault; it is taken then.
 fn takes(
     alloc: Global,
     progress: &mut Progress,
@@ -545,7 +523,7 @@ fn a_unique_index_behind_65535_rows_is_taken(rt: HostRuntime) {
 fn scripts_are_read(rt: HostRuntime) {
     assert!(rt; reads(rt.alloc(), LEAST, &[]));
     assert!(rt; reads(rt.alloc(), LOOSE, &[14, 15, 16, 17]));
-    assert!(rt; reads(rt.alloc(), SEVERAL, &[7, 8, 9]));
+    assert!(rt; reads(rt.alloc(), SEVERAL, &[8, 9, 10, 11]));
 }
 
 #[test]

@@ -152,5 +152,5 @@ module _ (head : Head) (line : List ℕ) where
 
 -- what the reader answers with Ok is sound
 pub answer-sound : (head : Head) (text : List ℕ) (r : Result Statement SqlFault) → Answers head text r → IfOk r (λ x. is_sound_statement head x ≡ true)
-answer-sound head text (Ok x) a = statement-sound head text (tokens text) (checked x None) a.0 refl
+answer-sound head text (Ok x) a = statement-sound head text (tokens text) (checked x None) a refl
 answer-sound head text (Err e) a = tt

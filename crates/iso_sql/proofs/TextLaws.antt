@@ -1,5 +1,5 @@
 -- What a text says is one thing, and what is wrong with it is one thing.
-use Rattle.std.proofs.Common.{◌≡◌, ℕ, true, false, List, length, Option, Some, None, Result, Ok, Err, refl, sym, ap, ◌∙◌, inl, inr, subst, ◌⊎◌}
+use Rattle.std.proofs.Common.{◌≡◌, ℕ, List, length, Option, Some, None, Result, Ok, Err, refl, sym, ap, ◌∙◌, inl, inr, subst, ◌⊎◌}
 use Rattle.iso_types.specs.declared.head.Head.{Head}
 use Rattle.iso_grammar.specs.declared.fault.Cause.{Cause}
 use Rattle.iso_grammar.specs.declared.fault.Cause.TheVariants as cause
@@ -9,14 +9,12 @@ use Rattle.iso_grammar.specs.declared.token.Token.{Token}
 use Rattle.iso_grammar.specs.Faults.{checked, place_of}
 use Rattle.iso_grammar.specs.Grammar.{StopsAt}
 use Rattle.iso_grammar.specs.Lex.{tokens}
-use Rattle.iso_grammar.proofs.Choices.{decide}
 use Rattle.iso_grammar.proofs.Whole as whole
 use Rattle.iso_sql.specs.declared.fault.SqlFault.{SqlFault}
 use Rattle.iso_sql.specs.declared.fault.SqlFault.TheVariants as fault
 use Rattle.iso_sql.specs.declared.statement.Statement.{Statement}
 use Rattle.iso_sql.specs.Statements.{statement}
-use Rattle.iso_sql.specs.Unbuilt.{is_built}
-use Rattle.iso_sql.specs.Texts.{Reads, Refuses, Answers, IsFaulty, IsOrMemory, IsTold, Builds, as_fault}
+use Rattle.iso_sql.specs.Texts.{Reads, Refuses, Answers, IsFaulty, IsOrMemory, IsTold, as_fault}
 use Rattle.iso_sql.proofs.StatementLaws.{statement-reads}
 
 module _ (head : Head) (text : List ℕ) where
@@ -36,9 +34,6 @@ module _ (head : Head) (text : List ℕ) where
 
   value_same : (x y : Statement) → statement head text (tokens text) (checked x None) → statement head text (tokens text) (checked y None) → x ≡ y
   value_same x y a b = ap (λ (z : Checked Statement). z.value) (same (checked x None) (checked y None) a b)
-
-  both_ways : {A : Type 0} (x y : Statement) → x ≡ y → is_built x ≡ true → is_built y ≡ false → A
-  both_ways x y e a b = let f : true ≡ false = sym a ∙ ap is_built e ∙ b in absurd cc
 
   got : Option Fault → Fault → Fault
   got None d = d
@@ -65,55 +60,38 @@ module _ (head : Head) (text : List ℕ) where
       subst (Refuses head text) (sym ee) (tells f.cause f.place (x.value, subst (statement head text (tokens text)) (ap (λ (g : Option Fault). checked x.value g) is) here))
 
   -- a statement without a fault is that of the text
-  pub told_value : (found : List Token) (x : Checked Statement) (r : Result Statement SqlFault) → found ≡ tokens text → statement head text found x → x.fault ≡ None → Builds x.value r → Answers head text r
-  told_value found x (Ok y) at st is b =
-      let here = subst (λ (ts : List Token). statement head text ts x) at st in
-      (subst (statement head text (tokens text)) (ap (λ (g : Option Fault). checked x.value g) is ∙ ap (λ (v : Statement). checked v None) (sym b.0)) here, ap is_built b.0 ∙ b.1)
-  told_value found x (Err e) at st is b =
-      let here = subst (λ (ts : List Token). statement head text ts x) at st in
-      subst (Refuses head text) (sym b.0) (x.value, subst (statement head text (tokens text)) (ap (λ (g : Option Fault). checked x.value g) is) here, b.1)
+  pub told_value : (found : List Token) (x : Checked Statement) → found ≡ tokens text → statement head text found x → x.fault ≡ None → Reads head text x.value
+  told_value found x at st is =
+      subst (statement head text (tokens text)) (ap (λ (g : Option Fault). checked x.value g) is) (subst (λ (ts : List Token). statement head text ts x) at st)
 
   -- a text that is read is not refused
   pub only : (x : Statement) (r : Result Statement SqlFault) → Reads head text x → Answers head text r → IsOrMemory r (Ok x)
-  only x (Ok y) a b = inl (ap Ok (value_same y x b.0 a.0))
-  only x (Err (fault.Syntax p)) a b = apart (checked x None) b.0 a.0 b.1
-  only x (Err (fault.Unknown p)) a b = clean b.0 x _ b.1 a.0
-  only x (Err (fault.TypeFault p)) a b = clean b.0 x _ b.1 a.0
-  only x (Err (fault.Duplicate p)) a b = clean b.0 x _ b.1 a.0
-  only x (Err (fault.Limit p)) a b = clean b.0 x _ b.1 a.0
-  only x (Err fault.Unbuilt) a b = both_ways x b.0 (value_same x b.0 a.0 b.1) a.1 b.2
+  only x (Ok y) a b = inl (ap Ok (value_same y x b a))
+  only x (Err (fault.Syntax p)) a b = apart (checked x None) b.0 a b.1
+  only x (Err (fault.Unknown p)) a b = clean b.0 x _ b.1 a
+  only x (Err (fault.TypeFault p)) a b = clean b.0 x _ b.1 a
+  only x (Err (fault.Duplicate p)) a b = clean b.0 x _ b.1 a
+  only x (Err (fault.Limit p)) a b = clean b.0 x _ b.1 a
   only x (Err fault.Memory) a b = inr refl
 
   faulty : (why : Cause) (place : ℕ) (r : Result Statement SqlFault) → IsFaulty head text why place → Answers head text r → IsOrMemory r (Err (as_fault why place))
-  faulty why place (Ok y) a b = clean a.0 y _ a.1 b.0
+  faulty why place (Ok y) a b = clean a.0 y _ a.1 b
   faulty why place (Err (fault.Syntax p)) a b = apart _ b.0 a.1 b.1
   faulty why place (Err (fault.Unknown p)) a b = inl (ap Err (same_told why cause.Unknown place p a b))
   faulty why place (Err (fault.TypeFault p)) a b = inl (ap Err (same_told why cause.TypeFault place p a b))
   faulty why place (Err (fault.Duplicate p)) a b = inl (ap Err (same_told why cause.Duplicate place p a b))
   faulty why place (Err (fault.Limit p)) a b = inl (ap Err (same_told why cause.Limit place p a b))
-  faulty why place (Err fault.Unbuilt) a b = clean a.0 b.0 _ a.1 b.1
   faulty why place (Err fault.Memory) a b = inr refl
 
   broken : (place : ℕ) (r : Result Statement SqlFault) → Refuses head text (fault.Syntax place) → Answers head text r → IsOrMemory r (Err (fault.Syntax place))
-  broken place (Ok y) a b = apart (checked y None) a.0 b.0 a.1
+  broken place (Ok y) a b = apart (checked y None) a.0 b a.1
   broken place (Err (fault.Syntax p)) a b =
       inl (ap (λ (n : ℕ). Err (fault.Syntax n)) (b.2 ∙ ap (λ (left : ℕ). place_of (tokens text) left (length text)) (whole.one_place (statement-reads head text) (tokens text) b.0 a.0 b.1 a.1) ∙ sym a.2))
   broken place (Err (fault.Unknown p)) a b = apart _ a.0 b.1 a.1
   broken place (Err (fault.TypeFault p)) a b = apart _ a.0 b.1 a.1
   broken place (Err (fault.Duplicate p)) a b = apart _ a.0 b.1 a.1
   broken place (Err (fault.Limit p)) a b = apart _ a.0 b.1 a.1
-  broken place (Err fault.Unbuilt) a b = apart _ a.0 b.1 a.1
   broken place (Err fault.Memory) a b = inr refl
-
-  unbuilt : (r : Result Statement SqlFault) → Refuses head text fault.Unbuilt → Answers head text r → IsOrMemory r (Err fault.Unbuilt)
-  unbuilt (Ok y) a b = both_ways y a.0 (value_same y a.0 b.0 a.1) b.1 a.2
-  unbuilt (Err (fault.Syntax p)) a b = apart _ b.0 a.1 b.1
-  unbuilt (Err (fault.Unknown p)) a b = clean b.0 a.0 _ b.1 a.1
-  unbuilt (Err (fault.TypeFault p)) a b = clean b.0 a.0 _ b.1 a.1
-  unbuilt (Err (fault.Duplicate p)) a b = clean b.0 a.0 _ b.1 a.1
-  unbuilt (Err (fault.Limit p)) a b = clean b.0 a.0 _ b.1 a.1
-  unbuilt (Err fault.Unbuilt) a b = inl refl
-  unbuilt (Err fault.Memory) a b = inr refl
 
   -- a text that is refused is not read, and refused in one way
   pub only_fault : (e : SqlFault) (r : Result Statement SqlFault) → IsTold e → Refuses head text e → Answers head text r → IsOrMemory r (Err e)
@@ -122,7 +100,6 @@ module _ (head : Head) (text : List ℕ) where
   only_fault (fault.TypeFault p) r t a b = faulty cause.TypeFault p r a b
   only_fault (fault.Duplicate p) r t a b = faulty cause.Duplicate p r a b
   only_fault (fault.Limit p) r t a b = faulty cause.Limit p r a b
-  only_fault fault.Unbuilt r t a b = unbuilt r a b
   only_fault fault.Memory r t a b = absurd t
 
   -- ---- each text has one answer
@@ -136,14 +113,8 @@ module _ (head : Head) (text : List ℕ) where
   abbrev Way : Type 0
   Way = ((x : Statement) × Reads head text x) ⊎ ((e : SqlFault) × IsTold e × Refuses head text e)
 
-  plainly : (x : Statement) → statement head text (tokens text) (checked x None) → Way
-  plainly x l = elim (decide (is_built x)) [
-    | inl b ↦ inl (x, (l, b))
-    | inr b ↦ inr (fault.Unbuilt, tt, (x, l, b))
-  ]
-
   judge : (x : Statement) (f : Option Fault) → statement head text (tokens text) (checked x f) → Way
-  judge x None l = plainly x l
+  judge x None l = inl (x, l)
   judge x (Some f) l = inr (as_fault f.cause f.place, told f.cause f.place, tells f.cause f.place (x, l))
 
   pub one_way : Way
@@ -168,7 +139,7 @@ module _ (head : Head) (text : List ℕ) where
   not_both x e a t r = elim (only x (Err e) a r) [ inl is ↦ err_ok e x is | inr is ↦ no_memory e t is ]
 
   pub one_statement : (x y : Statement) → Reads head text x → Reads head text y → x ≡ y
-  one_statement x y a b = value_same x y a.0 b.0
+  one_statement x y a b = value_same x y a b
 
   pub one_fault : (e f : SqlFault) → IsTold e → IsTold f → Refuses head text e → Refuses head text f → e ≡ f
   one_fault e f t u a b = elim (only_fault e (Err f) t a b) [ inl is ↦ sym (err_same f e is) | inr is ↦ no_memory f u is ]

@@ -7,5 +7,4 @@ pub mod Conditions
 pub mod ConditionReading
 pub mod Statements
 pub mod StatementReading
-pub mod Unbuilt
 pub mod Texts

@@ -1,5 +1,5 @@
 -- What a text says as a statement, or what is wrong with it.
-use Rattle.std.specs.Prelude.{◌≡◌, ◌⊎◌, ℕ, true, false, List, length, Some, None, Result, Ok, Err}
+use Rattle.std.specs.Prelude.{◌≡◌, ◌⊎◌, ℕ, List, length, Some, None, Result, Ok, Err}
 use Rattle.iso_types.specs.declared.head.Head.{Head}
 use Rattle.iso_grammar.specs.declared.fault.Cause.{Cause}
 use Rattle.iso_grammar.specs.declared.fault.Cause.TheVariants as cause
@@ -10,11 +10,10 @@ use Rattle.iso_sql.specs.declared.fault.SqlFault.{SqlFault}
 use Rattle.iso_sql.specs.declared.fault.SqlFault.TheVariants as fault
 use Rattle.iso_sql.specs.declared.statement.Statement.{Statement}
 use Rattle.iso_sql.specs.Statements.{statement}
-use Rattle.iso_sql.specs.Unbuilt.{is_built}
 
--- the text is this statement, without a fault, and this stage runs it
+-- the text is this statement, without a fault
 abbrev pub Reads : Head → List ℕ → Statement → Type 0
-Reads head text x = statement head text (tokens text) (checked x None) × (is_built x ≡ true)
+Reads head text x = statement head text (tokens text) (checked x None)
 
 -- the text has the form of a statement, whose least fault this is
 abbrev pub IsFaulty : Head → List ℕ → Cause → ℕ → Type 0
@@ -34,7 +33,6 @@ Refuses head text (fault.Unknown place) = IsFaulty head text cause.Unknown place
 Refuses head text (fault.TypeFault place) = IsFaulty head text cause.TypeFault place
 Refuses head text (fault.Duplicate place) = IsFaulty head text cause.Duplicate place
 Refuses head text (fault.Limit place) = IsFaulty head text cause.Limit place
-Refuses head text fault.Unbuilt = (x : Statement) × statement head text (tokens text) (checked x None) × (is_built x ≡ false)
 Refuses head text fault.Memory = Unit {0}
 
 -- what the reader answers is right
@@ -50,8 +48,3 @@ IsOrMemory r answer = (r ≡ answer) ⊎ (r ≡ Err fault.Memory)
 abbrev pub IsTold : SqlFault → Type 0
 IsTold fault.Memory = ⊥
 IsTold _ = Unit {0}
-
--- the statement, where this stage runs it
-abbrev pub Builds : Statement → Result Statement SqlFault → Type 0
-Builds x (Ok y) = (y ≡ x) × (is_built x ≡ true)
-Builds x (Err e) = (e ≡ fault.Unbuilt) × (is_built x ≡ false)

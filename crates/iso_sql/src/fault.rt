@@ -21,9 +21,6 @@ pub enum SqlFault {
     /// A name, a literal, a parenthesis or a comparison past its limit.
     #[error("LIMIT AT {0}")]
     Limit(u32),
-    /// A statement that this stage of the project does not run.
-    #[error("UNBUILT AT 1")]
-    Unbuilt,
     /// Want of memory.
     #[error("want of memory")]
     Memory,

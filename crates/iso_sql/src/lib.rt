@@ -17,7 +17,7 @@ mod told;
 
 pub use fault::SqlFault;
 pub use found::place_in;
-pub use read::{exactly_one_answer, is_built, read_statement};
+pub use read::{exactly_one_answer, read_statement};
 pub use reader::take_statement;
 pub use rows::{is_null, placed_row, stored_fault, stored_row, stored_value, stores};
 pub use scope::{Scope, gives, name_of, scope_of, table_of, table_place};

@@ -8,7 +8,6 @@ ghost use Rattle.iso_sql.specs.Sound.{is_sound_statement};
 ghost use Rattle.iso_sql.specs.StatementReading as reading;
 ghost use Rattle.iso_sql.specs.Statements as rule;
 ghost use Rattle.iso_sql.specs.Texts as spec;
-ghost use Rattle.iso_sql.specs.Unbuilt as stage;
 ghost use Rattle.iso_types.specs.declared.head.Head as declared;
 ghost use Rattle.iso_sql.specs.declared.fault.SqlFault as told;
 ghost use Rattle.iso_sql.specs.declared.statement.Statement as meant;
@@ -17,27 +16,8 @@ use crate::fault::SqlFault;
 use crate::reader::take_statement;
 use crate::statement::Statement;
 use iso_grammar::{Cause, Checked, Fault, ReadError, Token, Tokens, place_of, tokens_of};
-use iso_types::{Head, Isolation};
+use iso_types::Head;
 use std::alloc::Global;
-
-fn is_built_level(level: Option<Isolation>) -> bool
-    ensures { result ≡ stage.is_built_level level }
-{
-    !matches!(level, Some(Isolation::Rr))
-}
-
-/// Whether this stage of the project runs the statement: one that names no level RR. No memory.
-pub fn is_built(statement: &Statement) -> bool
-    ensures { result ≡ stage.is_built statement.now }
-{
-    match statement {
-        Statement::Select { level, .. } => is_built_level(*level),
-        Statement::Update { level, .. } => is_built_level(*level),
-        Statement::Delete { level, .. } => is_built_level(*level),
-        Statement::SetIsolation(level) => is_built_level(*level),
-        _ => true,
-    }
-}
 
 fn whole(
     alloc: Global,
@@ -79,16 +59,6 @@ fn at_place(fault: Fault) -> SqlFault
     }
 }
 
-fn built(statement: Statement) -> Result<Statement, SqlFault>
-    ensures { spec.Builds statement result }
-{
-    if is_built(&statement) {
-        Ok(statement)
-    } else {
-        Err(SqlFault::Unbuilt)
-    }
-}
-
 fn judged(alloc: Global, head: &Head, text: &[u8], found: &[Token]) -> Result<Statement, SqlFault>
     requires tokens { found.now ≡ tokens text.now }
     requires short { length text.now ≤ 1048576 }
@@ -101,21 +71,20 @@ fn judged(alloc: Global, head: &Head, text: &[u8], found: &[Token]) -> Result<St
         }
         Ok(checked) => match checked.fault {
             Some(fault) => Err(at_place(fault)),
-            None => built(checked.value),
+            None => Ok(checked.value),
         },
     }
 }
 
 /// Reads a statement over the tables of the head; the text has at most 1,048,576 bytes.
 ///
-/// Each fault but `Unbuilt` and `Memory` comes with its place in the text, in bytes from 1. `Syntax`: the first token with
+/// Each fault but `Memory` comes with its place in the text, in bytes from 1. `Syntax`: the first token with
 /// which the text begins no statement; behind the last token, the text's length plus 1. All others come only where the text
 /// has the form of a statement, and the one at the least place is told; at one place they rank in this order. `Unknown`: a
 /// table or a column that isn't declared. `TypeFault`: a literal or a column that does not fit; in an INSERT also what
 /// closes a list that is too short, and the first literal too many. `Duplicate`: a column that is listed twice, at its
 /// second token. `Limit`: a number over 64 bits or a text over 32 bytes in a comparison, the number of a sum, a savepoint's
-/// name over 32 bytes, the 33rd parenthesis inside others, the 65th comparison. `Unbuilt`: a statement without a fault that
-/// this stage of the project does not run. `Memory`: want of memory.
+/// name over 32 bytes, the 33rd parenthesis inside others, the 65th comparison. `Memory`: want of memory.
 /// A statement that is read is sound: its tables and columns are the head's, and it meets the type rules and limits.
 /// Cost: one pass over the text, and a look-up for each name. The places are this project's own.
 pub fn read_statement(alloc: Global, head: &Head, text: &[u8]) -> Result<Statement, SqlFault>

@@ -1,7 +1,5 @@
 -- What the step that is due says of the first part that is left.
 use Rattle.std.proofs.Common.{◌≡◌, Bool, true, List, [], ◌∷◌, sym, subst, Option, Some, ℤ}
-use Rattle.std.specs.Option.{option_map}
-use Rattle.std.specs.Prelude.{slice_get}
 use Rattle.iso_conduct.proofs.Needs.{AllNeed, Locked, Reads, is_own_refusal}
 use Rattle.iso_conduct.specs.Parts.{Part}
 use Rattle.iso_conduct.specs.Parts.Part.{Asks, EntryLook, IndexScan, NewRow, Refuses, RowDelete, RowUpdate, TableScan}
@@ -10,11 +8,10 @@ use Rattle.iso_conduct.specs.declared.moves.Move.{Move}
 use Rattle.iso_history.specs.Requests.{is_table_mode}
 use Rattle.iso_history.specs.declared.entry.Want.{Want}
 use Rattle.iso_modes.specs.declared.Mode.{Mode}
-use Rattle.iso_modes.specs.declared.Mode.TheVariants.{Ix, X}
+use Rattle.iso_modes.specs.declared.Mode.TheVariants.{Is, Ix, X}
 use Rattle.iso_standing.proofs.Writing.{AllWrite}
 use Rattle.iso_types.specs.Head.{is_table, row_fits, table_of_index}
 use Rattle.iso_types.specs.declared.head.Head.{Head}
-use Rattle.iso_types.specs.declared.head.IndexDef.{IndexDef}
 use Rattle.iso_types.specs.declared.head.Range.{Range}
 use Rattle.iso_types.specs.declared.value.IndexId.{IndexId}
 use Rattle.iso_types.specs.declared.value.Name.{Name}
@@ -103,18 +100,19 @@ module _ (head : Head) (g : Locked) (kept : Haul) (ps : List Part) (n : AllWrite
   pub delete-writes : (t : TableId) (r : Rid) → due_by kept ps ≡ Move.Delete t r → g t Ix
   delete-writes t r e = let d = due-delete kept ps t r e in (subst (AllWrite head g) d.1 n).0
 
--- ---- a head without an index
+-- ---- steps of an index scan
 
-module _ (head : Head) (plain : head.indexes ≡ []) where
-  no-index : (i : IndexId) (t : TableId) → table_of_index head i ≡ Some t → ⊥
-  no-index i t e = none (subst (λ (z : List IndexDef). option_map (λ d. d.table) (slice_get z i.0) ≡ Some t) plain e)
-    where
-      none : option_map (λ (d : IndexDef). d.table) (slice_get [] i.0) ≡ Some t → ⊥
-      none h = cc
+-- what a step of an index scan asks of the locks: its table is held where it locks keys
+abbrev pub Guards : Head → Locked → IndexId → Bool → Type 0
+Guards head g i guarded = (t : TableId) × (table_of_index head i ≡ Some t) × (guarded ≡ true → g t Is)
 
-  -- no step of an index scan is due
-  pub no-next : (g : Locked) (kept : Haul) (ps : List Part) (i : IndexId) (range : Range) (at : Option (Value × Rid)) (guarded : Bool) → AllNeed head g ps
-      → due_by kept ps ≡ Move.Next i range at guarded → ⊥
-  no-next g kept [] i range at guarded n e = cc
-  no-next g kept (IndexScan k from ∷ ps) i range at guarded n e = no-index k.index k.table n.0.1
-  no-next g kept (x ∷ ps) i range at guarded n e = cc
+module _ (head : Head) (g : Locked) (kept : Haul) where
+  guards-same : (i j : IndexId) (a b : Bool) → j ≡ i → a ≡ b → Guards head g j a → Guards head g i b
+  guards-same i j a b f h s = subst (λ z. Guards head g i z) h (subst (λ z. Guards head g z a) f s)
+
+  -- a step of an index scan: the index is one of the scan's table
+  pub next-needs : (ps : List Part) (i : IndexId) (range : Range) (at : Option (Value × Rid)) (guarded : Bool) → AllNeed head g ps
+      → due_by kept ps ≡ Move.Next i range at guarded → Guards head g i guarded
+  next-needs [] i range at guarded n e = absurd (cc)
+  next-needs (IndexScan k from ∷ ps) i range at guarded n e = guards-same i k.index k.guarded guarded (cc) (cc) (k.table, n.0.1, n.0.3)
+  next-needs (x ∷ ps) i range at guarded n e = absurd (cc)

@@ -1,5 +1,5 @@
 -- The step that is due of a connection which can go on may be made.
-use Rattle.std.proofs.Common.{◌≡◌, inl, inr, true, List, [], refl, ap, Some}
+use Rattle.std.proofs.Common.{◌≡◌, inl, inr, true, List, refl, ap, Some}
 use Rattle.iso_conduct.specs.Conduct.{Conduct, point, ready}
 use Rattle.iso_conduct.specs.Points.{Point, due, row_due}
 use Rattle.iso_conduct.specs.Standing.{MayGoOn, MayMake}
@@ -12,17 +12,18 @@ use Rattle.iso_history.specs.Writes.{may_change, may_write}
 use Rattle.iso_history.specs.declared.entry.Entry.{Entry}
 use Rattle.iso_script.specs.Sound.{IsSound}
 use Rattle.iso_script.specs.declared.script.Script.{Script}
+use Rattle.iso_standing.proofs.NextsAt.{next-at}
 use Rattle.iso_standing.proofs.RowsAt.{Changes, change-at, row-there-at, update-fits-at}
 use Rattle.iso_standing.proofs.StepsRun.{asks_to_run, back-at, claim-at, collapse-at, free-at, runs-at}
 use Rattle.iso_standing.proofs.StepsUndo.{rollback-at, undo-at}
-use Rattle.iso_standing.proofs.TableLocks.{ask-at, delete-table-at, insert-at, look-at, no-end-at, no-key-at, no-next-at, refuse-at, table-ask-at, update-table-at}
+use Rattle.iso_standing.proofs.TableLocks.{ask-at, delete-table-at, insert-at, look-at, no-end-at, no-key-at, refuse-at, table-ask-at, update-table-at}
 use Rattle.iso_standing.specs.Going.{GoesOn}
 use Rattle.iso_types.specs.declared.value.Conn.{Conn}
 use Rattle.iso_types.specs.declared.value.Name.TheVariants.{End, Key, Row, Table}
 use Rattle.iso_types.specs.declared.value.Rid.{Rid}
 use Rattle.iso_types.specs.declared.value.TableId.{TableId}
 
-module _ (script : Script) (es : List Entry) (c : Conn) (p : Point) (sound : IsSound script) (plain : script.head.indexes ≡ []) (g : Ground script.head es)
+module _ (script : Script) (es : List Entry) (c : Conn) (p : Point) (sound : IsSound script) (g : Ground script.head es)
     (k : Conduct script.head script.lines es c) (able : GoesOn (world script.head es) c)
     (is : ready script.head script.lines (world script.head es) c (point script.head script.lines es c) ≡ Some p) where
   abbrev here : World
@@ -38,12 +39,12 @@ module _ (script : Script) (es : List Entry) (c : Conn) (p : Point) (sound : IsS
   may-make (Move.Lock (Table t) m) e = (run (ap asks_to_run e), table-ask-at script es c p sound g k is t m e)
   may-make (Move.Lock (Row t r) m) e =
       let runs = run (ap asks_to_run e) in
-      (runs, ask-at script es c p sound g k is runs.0 (Row t r) m e (row-there-at script es c p sound plain g k is t r m e))
+      (runs, ask-at script es c p sound g k is runs.0 (Row t r) m e (row-there-at script es c p sound g k is t r m e))
   may-make (Move.Lock (Key i v) m) e = absurd (no-key-at script es c p sound g k is i v m e)
   may-make (Move.Lock (End i) m) e = absurd (no-end-at script es c p sound g k is i m e)
   may-make Move.Claim e = claim-at script.head script.lines es c g k able p is e
   may-make (Move.Look t r want) e = let runs = run (ap asks_to_run e) in (runs, look-at script es c p sound g k is runs.0 t r want e)
-  may-make (Move.Next i range at guarded) e = absurd (no-next-at script es c p sound g k is plain i range at guarded e)
+  may-make (Move.Next i range at guarded) e = let runs = run (ap asks_to_run e) in (runs, next-at script es c p sound g k is runs.0 i range at guarded e)
   may-make (Move.Free t r) e = free-at script.head script.lines es c g k able p is t r e
   may-make (Move.Collapse t) e = collapse-at script.head script.lines es c g k able p is t e
   may-make (Move.Insert t) e =
@@ -53,12 +54,12 @@ module _ (script : Script) (es : List Entry) (c : Conn) (p : Point) (sound : IsS
   may-make (Move.Update t r) e =
       let runs = run (ap asks_to_run e) in (
         runs,
-        may-change t r (update-table-at script es c p sound g k is runs.0 t r e) (change-at script es c p sound plain g k is runs.0 t r (inl e)),
-        update-fits-at script es c p sound plain g k is t r e,
+        may-change t r (update-table-at script es c p sound g k is runs.0 t r e) (change-at script es c p sound g k is runs.0 t r (inl e)),
+        update-fits-at script es c p sound g k is t r e,
       )
   may-make (Move.Delete t r) e =
       let runs = run (ap asks_to_run e) in
-      (runs, may-change t r (delete-table-at script es c p sound g k is runs.0 t r e) (change-at script es c p sound plain g k is runs.0 t r (inr e)))
+      (runs, may-change t r (delete-table-at script es c p sound g k is runs.0 t r e) (change-at script es c p sound g k is runs.0 t r (inr e)))
   may-make (Move.Refuse code) e = (run (ap asks_to_run e), refuse-at script es c p sound g k is code e)
   may-make (Move.Undo floor) e = undo-at script.head script.lines es c g k able p is floor e
   may-make (Move.Mark name) e = run (ap asks_to_run e)

@@ -26,6 +26,7 @@ use Rattle.iso_script.specs.declared.script.Script.{Script}
 use Rattle.iso_sql.specs.declared.statement.Statement.{Statement}
 use Rattle.iso_standing.proofs.RowNeeds.{AllRows}
 use Rattle.iso_standing.proofs.RowTold.{PointRows}
+use Rattle.iso_standing.proofs.RowsFirm.{Firm}
 use Rattle.iso_standing.proofs.RowsHold.{RowsAt, rows-hold, rows-ready}
 use Rattle.iso_standing.proofs.RowsLocked.{LocksRow, running-locks}
 use Rattle.iso_standing.proofs.RowsSeen.{Sees, seen-there, seen-view}
@@ -48,7 +49,7 @@ Changes head w c t r = ((is_covered head w.holds c (Row t r) X || holds_at_least
 module _ (head : Head) (w : World) (s : IsSound head w) (c : Conn) (st : Statement) (columns : List Column) (kept : Haul) where
   -- what the parts need, in this world
   abbrev RowsOf : List Part → Type 0
-  RowsOf ps = AllRows head st columns (Sees w c) (LocksRow head w c) kept ps
+  RowsOf ps = AllRows head st columns (Sees w c) (Firm w c) (LocksRow head w c) kept ps
 
   -- a row is asked for in X, and is there
   asked-there : (t : TableId) (r : Rid) (m : Mode) (ps : List Part) → due_by kept ps ≡ Move.Lock (Row t r) m → RowsOf ps
@@ -99,14 +100,14 @@ module _ (head : Head) (w : World) (s : IsSound head w) (c : Conn) (st : Stateme
 
 -- ---- at the ready point of a legal history
 
-module _ (script : Script) (es : List Entry) (c : Conn) (p : Point) (sound : IsSoundScript script) (plain : script.head.indexes ≡ [])
+module _ (script : Script) (es : List Entry) (c : Conn) (p : Point) (sound : IsSoundScript script)
     (ground : Ground script.head es) (conduct : Conduct script.head script.lines es c)
     (at : ready script.head script.lines (world script.head es) c (point script.head script.lines es c) ≡ Some p) where
   -- what the changes of the statement need of its rows
-  pub rows-at : PointRows script.head (Sees (world script.head es) c) (LocksRow script.head (world script.head es) c) p
-  rows-at = subst (RowsAt script.head script.lines c plain (world script.head es)) at
-      (rows-ready script.head script.lines c plain (world script.head es) (point script.head script.lines es c)
-      (rows-hold script.head script.lines c plain es (first-fitted script.head sound.head.rows) ground conduct))
+  pub rows-at : PointRows script.head (Sees (world script.head es) c) (Firm (world script.head es) c) (LocksRow script.head (world script.head es) c) p
+  rows-at = subst (RowsAt script.head script.lines c (world script.head es)) at
+      (rows-ready script.head script.lines c (world script.head es) (point script.head script.lines es c)
+      (rows-hold script.head script.lines c es (first-fitted script.head sound.head.rows) ground conduct))
 
   sound-now : IsSound script.head (world script.head es)
   sound-now = sound-world script.head es ground

@@ -1,11 +1,11 @@
 -- At its start a statement needs no row, and what an UPDATE assigns to a row that fits its table fits it again.
-use Rattle.std.proofs.Common.{◌≡◌, ◌+◌, ℕ, suc, Bool, true, false, List, [], ◌∷◌, length, refl, ap, sym, ◌∙◌, subst, arith, Option, Some, None, Ok, if◌then◌else◌}
+use Rattle.std.proofs.Common.{◌≡◌, ◌+◌, ℕ, suc, Bool, true, false, List, [], ◌∷◌, refl, ap, sym, ◌∙◌, subst, arith, Option, Some, None, Ok, if◌then◌else◌}
 use Rattle.std.proofs.lemmas.Bool.Decides.{nat_tests}
-use Rattle.std.specs.List.{enumerate_from, range_with_len}
+use Rattle.std.specs.List.{enumerate_from}
 use Rattle.std.specs.Option.{option_map_or, option_or}
-use Rattle.std.specs.Prelude.{◌==◌, filter, map, slice_get, pos}
+use Rattle.std.specs.Prelude.{◌==◌, map, slice_get, pos}
 use Rattle.iso_conduct.specs.Parts.{Part, change_want, level_in, listed, scan, select_mode, select_want, change_mode}
-use Rattle.iso_conduct.specs.Parts.Part.{Answer, Asks, Changes, NewRow, Refuses, Replies, TableScan}
+use Rattle.iso_conduct.specs.Parts.Part.{Answer, Asks, Changes, NewRow, Refuses, Replies}
 use Rattle.iso_conduct.specs.Points.{first_haul, updated_columns}
 use Rattle.iso_conduct.specs.Points.Haul.{Found}
 use Rattle.iso_history.specs.Guards.{is_lasting}
@@ -15,7 +15,7 @@ use Rattle.iso_history.specs.declared.entry.Want.{Want}
 use Rattle.iso_modes.specs.declared.Mode.{Mode}
 use Rattle.iso_predicate.proofs.Fitting.{and_both, and_first, and_second, fits_without_fault}
 use Rattle.iso_predicate.specs.Assigned.{Fault, assigned, evaluated, fault_in, fault_of, first_fault, has_null, new_value, replaced, unless}
-use Rattle.iso_predicate.specs.Plan.{first_path, plan_of}
+use Rattle.iso_predicate.specs.Plan.{plan_of}
 use Rattle.iso_predicate.specs.declared.plans.Path.{Path}
 use Rattle.iso_sql.specs.Sound.{columns_of}
 use Rattle.iso_sql.specs.declared.statement.Assignment.{Assignment}
@@ -24,12 +24,11 @@ use Rattle.iso_sql.specs.declared.statement.Items2.{Items2}
 use Rattle.iso_sql.specs.declared.statement.Items2.TheVariants.{All, Columns, Count}
 use Rattle.iso_sql.specs.declared.statement.Statement.{Statement}
 use Rattle.iso_sql.specs.declared.statement.Statement.TheVariants as st
-use Rattle.iso_standing.proofs.RowNeeds.{AllRows, Assigns, Seen, Written}
-use Rattle.iso_types.specs.Head.{all_fit, fits_column, indexes_of, row_fits, table_of_index}
-use Rattle.iso_types.specs.Ids.{table_eq}
+use Rattle.iso_standing.proofs.KeptRows.{Seen, Such}
+use Rattle.iso_standing.proofs.RowNeeds.{AllRows, Assigns, Written}
+use Rattle.iso_types.specs.Head.{all_fit, fits_column, row_fits}
 use Rattle.iso_types.specs.declared.head.Column.{Column}
 use Rattle.iso_types.specs.declared.head.Head.{Head}
-use Rattle.iso_types.specs.declared.head.IndexDef.{IndexDef}
 use Rattle.iso_types.specs.declared.head.Isolation.{Isolation}
 use Rattle.iso_types.specs.declared.head.TableDef.{TableDef}
 use Rattle.iso_types.specs.declared.value.Conn.{Conn}
@@ -102,62 +101,57 @@ assigned-fits head t sets row new fit e = go (slice_get head.tables t.0) fit e
 
 -- ---- the start
 
--- without an index each path is by the table
-pub plain-plan : (head : Head) → head.indexes ≡ [] → (t : TableId) (cond : Condition) → plan_of head t cond ≡ Path.Table
-plain-plan head plain t cond = ap (first_path head cond) none
-  where
-    none : indexes_of head t ≡ []
-    none = ap (λ (xs : List IndexDef). filter (λ i. option_map_or (λ u. table_eq u t) (table_of_index head i) false)
-        (map (λ k. record { 0 = k }) (range_with_len 0 (length xs)))) plain
-
 change-lasts : (level : Isolation) → is_lasting (change_want level) ≡ true
 change-lasts Isolation.Ur = refl
 change-lasts Isolation.Cs = refl
 change-lasts Isolation.Rs = refl
 change-lasts Isolation.Rr = refl
 
-module _ (head : Head) (see : Seen) (g : Written) where
+module _ (head : Head) (see : Seen) (firm : Such) (g : Written) where
   abbrev Begins : Statement → List Part → Type 0
-  Begins s ps = AllRows head s (updated_columns head s) see g (first_haul s) ps
+  Begins s ps = AllRows head s (updated_columns head s) see firm g (first_haul s) ps
 
   select-begins : (t : TableId) (items : Items2) (cond : Condition) (level : Option Isolation) (m : Mode) (want : Want) (l : Isolation) (path : Path)
-      → path ≡ Path.Table → Begins (st.Select t items cond level) (Asks (Table t) m ∷ scan head t want l path ∷ Answer ∷ [])
-  select-begins t items cond level m want l path e =
-      subst (λ z. Begins (st.Select t items cond level) (Asks (Table t) m ∷ scan head t want l z ∷ Answer ∷ [])) (sym e) (by items)
-    where
-      by : (x : Items2) → Begins (st.Select t x cond level) (Asks (Table t) m ∷ TableScan t want 0 ∷ Answer ∷ [])
-      by Count = (tt, ((refl, tt), (tt, tt)))
-      by All = (tt, ((refl, tt), (tt, tt)))
-      by (Columns ks) = (tt, ((refl, tt), (tt, tt)))
+      → Begins (st.Select t items cond level) (Asks (Table t) m ∷ scan head t want l path ∷ Answer ∷ [])
+  select-begins t Count cond level m want l Path.Table = (tt, ((refl, tt), (tt, tt)))
+  select-begins t All cond level m want l Path.Table = (tt, ((refl, tt), (tt, tt)))
+  select-begins t (Columns ks) cond level m want l Path.Table = (tt, ((refl, tt), (tt, tt)))
+  select-begins t Count cond level m want l (Path.Index i range) = (tt, ((refl, tt), (tt, tt)))
+  select-begins t All cond level m want l (Path.Index i range) = (tt, ((refl, tt), (tt, tt)))
+  select-begins t (Columns ks) cond level m want l (Path.Index i range) = (tt, ((refl, tt), (tt, tt)))
 
-  change-begins : (s : Statement) (t : TableId) (m : Mode) (level : Isolation) (path : Path) → path ≡ Path.Table → first_haul s ≡ Found []
+  change-begins : (s : Statement) (t : TableId) (m : Mode) (level : Isolation) (path : Path) → first_haul s ≡ Found []
       → Assigns head s (updated_columns head s) s t
       → Begins s (Asks (Table t) m ∷ scan head t (change_want level) level path ∷ Changes t ∷ Answer ∷ [])
-  change-begins s t m level path e none assigns =
-      subst (λ z. Begins s (Asks (Table t) m ∷ scan head t (change_want level) level z ∷ Changes t ∷ Answer ∷ [])) (sym e)
-      (subst (λ k. AllRows head s (updated_columns head s) see g k (Asks (Table t) m ∷ TableScan t (change_want level) 0 ∷ Changes t ∷ Answer ∷ [])) (sym none)
-      (tt, (((refl, refl, assigns), (change-lasts level, tt)), ((refl, assigns), (tt, tt)))))
+  change-begins s t m level path none assigns =
+      subst (λ k. AllRows head s (updated_columns head s) see firm g k (Asks (Table t) m ∷ scan head t (change_want level) level path ∷ Changes t ∷ Answer ∷ []))
+      (sym none) (by path)
+    where
+      by : (x : Path) → AllRows head s (updated_columns head s) see firm g (Found [])
+          (Asks (Table t) m ∷ scan head t (change_want level) level x ∷ Changes t ∷ Answer ∷ [])
+      by Path.Table = (tt, (((refl, refl, assigns), (change-lasts level, tt, tt)), ((refl, assigns), (tt, tt))))
+      by (Path.Index i range) = (tt, (((refl, refl, assigns), (change-lasts level, tt, λ p e. tt)), ((refl, assigns), (tt, tt))))
 
-  -- a statement over a head without an index
-  pub begin-rows : head.indexes ≡ [] → (c : Conn) (set : Setting) (s : Statement) → Begins s (listed head c set s)
-  begin-rows plain c set (st.Select t items cond level) =
+  -- a statement before its first own entry
+  pub begin-rows : (c : Conn) (set : Setting) (s : Statement) → Begins s (listed head c set s)
+  begin-rows c set (st.Select t items cond level) =
       select-begins t items cond level (select_mode (level_in set level) (plan_of head t cond)) (select_want head.config.cur_commit (level_in set level))
-      (level_in set level) (plan_of head t cond) (plain-plan head plain t cond)
-  begin-rows plain c set (st.Update t sets cond level) =
+      (level_in set level) (plan_of head t cond)
+  begin-rows c set (st.Update t sets cond level) =
       change-begins (st.Update t sets cond level) t (change_mode (level_in set level) (plan_of head t cond)) (level_in set level) (plan_of head t cond)
-      (plain-plan head plain t cond) refl (λ row new fit e. assigned-fits head t sets.list row new fit e)
-  begin-rows plain c set (st.Delete t cond level) =
+      refl (λ row new fit e. assigned-fits head t sets.list row new fit e)
+  begin-rows c set (st.Delete t cond level) =
       change-begins (st.Delete t cond level) t (change_mode (level_in set level) (plan_of head t cond)) (level_in set level) (plan_of head t cond)
-      (plain-plan head plain t cond) refl tt
-  begin-rows plain c set (st.Insert t row) = (tt, go (has_null (columns_of head t) row))
+      refl tt
+  begin-rows c set (st.Insert t row) = (tt, go (has_null (columns_of head t) row))
     where
       go : (b : Bool) → Begins (st.Insert t row) ((if b then Refuses (minus 407) else NewRow t row) ∷ Replies (pos 0) 1 ∷ [])
       go true = (tt, (tt, tt))
       go false = (refl, (tt, tt))
-  begin-rows plain c set (st.LockTable t mode) = (tt, (tt, tt))
-  begin-rows plain c set (st.Savepoint name) = (tt, (tt, tt))
-  begin-rows plain c set (st.RollbackTo name) = (refl, (tt, tt))
-  begin-rows plain c set st.Rollback = (refl, (tt, tt))
-  begin-rows plain c set st.Commit = (tt, tt)
-  begin-rows plain c set (st.SetIsolation level) = (tt, (tt, tt))
-  begin-rows plain c set (st.SetWait may_wait) = (tt, (tt, tt))
+  begin-rows c set (st.LockTable t mode) = (tt, (tt, tt))
+  begin-rows c set (st.Savepoint name) = (tt, (tt, tt))
+  begin-rows c set (st.RollbackTo name) = (refl, (tt, tt))
+  begin-rows c set st.Rollback = (refl, (tt, tt))
+  begin-rows c set st.Commit = (tt, tt)
+  begin-rows c set (st.SetIsolation level) = (tt, (tt, tt))
+  begin-rows c set (st.SetWait may_wait) = (tt, (tt, tt))

@@ -26,6 +26,7 @@ use Rattle.iso_sql.specs.declared.statement.Statement.{Statement}
 use Rattle.iso_standing.proofs.RowTold.{PointRows, RowTold, told-rows}
 use Rattle.iso_standing.proofs.RowsAlong.{made-rows, others-leave}
 use Rattle.iso_standing.proofs.RowsBegin.{begin-rows}
+use Rattle.iso_standing.proofs.RowsFirm.{Firm, seen-once}
 use Rattle.iso_standing.proofs.RowsLocked.{LocksRow}
 use Rattle.iso_standing.proofs.RowsSeen.{Sees}
 use Rattle.iso_types.specs.Ids.{conn_eq}
@@ -34,17 +35,17 @@ use Rattle.iso_types.specs.declared.desk.Phase.TheVariants.{Closing, Idle, Rolli
 use Rattle.iso_types.specs.declared.head.Head.{Head}
 use Rattle.iso_types.specs.declared.value.Conn.{Conn}
 
-module _ (head : Head) (lines : List Line) (c : Conn) (plain : head.indexes ≡ []) where
+module _ (head : Head) (lines : List Line) (c : Conn) where
   -- what the point needs of the rows, where there is one
   abbrev pub RowsAt : World → Option Point → Type 0
   RowsAt w None = Unit {0}
-  RowsAt w (Some p) = PointRows head (Sees w c) (LocksRow head w c) p
+  RowsAt w (Some p) = PointRows head (Sees w c) (Firm w c) (LocksRow head w c) p
 
   -- ---- the point from which an entry is made
 
   abbrev QuietTold : World → Point → Option Told → Type 0
   QuietTold w p None = Unit {0}
-  QuietTold w p (Some t) = RowTold head (Sees w c) (LocksRow head w c) p t
+  QuietTold w p (Some t) = RowTold head (Sees w c) (Firm w c) (LocksRow head w c) p t
 
   quiet_claim-told : (w : World) (p : Point) (f : Phase) (doom : Option ℕ) → QuietTold w p (quiet_claim f doom)
   quiet_claim-told w p Rolling None = tt
@@ -73,11 +74,11 @@ module _ (head : Head) (lines : List Line) (c : Conn) (plain : head.indexes ≡ 
     where
       go : (o : Option Told) → quiet w c (due p) ≡ o → QuietTold w p o → RowsAt w (Some (told_by p o))
       go None e k = n
-      go (Some t) e k = told-rows head (Sees w c) (LocksRow head w c) p t (quiet-answers w c (due p) t e) n k
+      go (Some t) e k = told-rows head (Sees w c) (Firm w c) (seen-once w c) (LocksRow head w c) p t (quiet-answers w c (due p) t e) n k
 
   rows-started : (w : World) (o : Option Statement) → RowsAt w (option_map (start_point head c (w.setting c) (w.floor c)) o)
   rows-started w None = tt
-  rows-started w (Some s) = begin-rows head (Sees w c) (LocksRow head w c) plain c (w.setting c) s
+  rows-started w (Some s) = begin-rows head (Sees w c) (Firm w c) (LocksRow head w c) c (w.setting c) s
 
   rows-opened : (w : World) (o : Option Point) → RowsAt w o → RowsAt w (opened head lines w c o)
   rows-opened w (Some p) n = n

@@ -157,7 +157,7 @@ module _ (head : Head) (w : World) (s : IsSound head w) (c : Conn) where
       go (inl e) = e
       go (inr p) = absurd (l p.0 p.1)
 
-  left-by : (t : TableId) (r : Rid) (a : Act) → LeavesRow t r a → versions_at (tables_by w (unit_of w c) (change_of a)) t r ≡ versions w t r
+  pub left-by : (t : TableId) (r : Rid) (a : Act) → LeavesRow t r a → versions_at (tables_by w (unit_of w c) (change_of a)) t r ≡ versions w t r
   left-by t r (Update u q row) l = written-aside t r u q (Some row) l
   left-by t r (Delete u q) l = written-aside t r u q None l
   left-by t r (Insert u q row) l = absurd l

@@ -1,6 +1,6 @@
 -- At the ready point of a connection that runs: the locks on tables that are due, the looks, the insertion, and the tables of the
 -- rows that it changes.
-use Rattle.std.proofs.Common.{◌≡◌, inl, inr, Bool, true, false, ◌||◌, List, [], refl, sym, ◌∙◌, subst, Option, Some, None, if◌then◌else◌, ℤ}
+use Rattle.std.proofs.Common.{◌≡◌, inl, inr, Bool, true, false, ◌||◌, List, refl, sym, ◌∙◌, subst, Option, Some, None, if◌then◌else◌, ℤ}
 use Rattle.std.specs.Option.{option_map_or}
 use Rattle.std.specs.Ordering.{int_eq}
 use Rattle.std.specs.Prelude.{nat_lt}
@@ -29,12 +29,11 @@ use Rattle.iso_queue.specs.Locks.{holds_at_least, is_covered}
 use Rattle.iso_queue.specs.Queues.{Wait}
 use Rattle.iso_script.specs.Sound.{IsSound}
 use Rattle.iso_script.specs.declared.script.Script.{Script}
-use Rattle.iso_standing.proofs.DueParts.{delete-writes, end-writes, insert-needs, key-writes, lock-needs, look-needs, no-next, refuse-needs, row-writes, update-writes}
+use Rattle.iso_standing.proofs.DueParts.{delete-writes, end-writes, insert-needs, key-writes, lock-needs, look-needs, refuse-needs, row-writes, update-writes}
 use Rattle.iso_standing.proofs.LocksAlong.{Suits, SuitsAt, suits-hold, suits-more, suits-ready}
 use Rattle.iso_types.specs.Head.{row_fits}
 use Rattle.iso_types.specs.declared.desk.Phase.TheVariants.{Running}
 use Rattle.iso_types.specs.declared.head.Head.{Head}
-use Rattle.iso_types.specs.declared.head.Range.{Range}
 use Rattle.iso_types.specs.declared.value.Conn.{Conn}
 use Rattle.iso_types.specs.declared.value.IndexId.{IndexId}
 use Rattle.iso_types.specs.declared.value.Name.{Name}
@@ -65,7 +64,7 @@ running-holds w c e u k (inr (inr d)) = absurd (running-spared _ _ _ _ _ e d)
 
 -- ---- looks
 
-or-second : (a b : Bool) → b ≡ true → (a || b) ≡ true
+pub or-second : (a b : Bool) → b ≡ true → (a || b) ≡ true
 or-second true b e = refl
 or-second false b e = e
 
@@ -155,13 +154,8 @@ module _ (script : Script) (es : List Entry) (c : Conn) (p : Point) (sound : IsS
   pub refuse-at : (code : ℤ) → due p ≡ Move.Refuse code → is_refusal script.head (world script.head es) c code ≡ true
   refuse-at code e = own-refusal script.head (world script.head es) c code (refuse-needs script.head _ p.kept p.left point-suits.0 code e)
 
-  -- without an index no step of an index scan is due
-  pub no-next-at : script.head.indexes ≡ [] → (i : IndexId) (range : Range) (at : Option (Value × Rid)) (guarded : Bool)
-      → due p ≡ Move.Next i range at guarded → ⊥
-  no-next-at plain i range at guarded e = no-next script.head plain _ p.kept p.left i range at guarded point-suits.0 e
-
   module _ (runs : phase (world script.head es) c ≡ Running) where
-    held-suits : Suits script.head (Held (world script.head es) c) p.left
+    pub held-suits : Suits script.head (Held (world script.head es) c) p.left
     held-suits = suits-more script.head _ _ (running-holds (world script.head es) c runs) p.left point-suits
 
     -- a look: its table is the head's, and it may stand where its slot is there

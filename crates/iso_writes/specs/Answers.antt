@@ -4,7 +4,7 @@ use Rattle.iso_history.specs.Makers.{by_agent}
 use Rattle.iso_history.specs.Outcomes.{written_by}
 use Rattle.iso_history.specs.World.{World}
 use Rattle.iso_history.specs.Writes.{Written as Outcome, minus}
-use Rattle.iso_history.specs.Writes.Written.{AtLimit, Done as IsDone, IsFull, Refuses}
+use Rattle.iso_history.specs.Writes.Written.{AtLimit, Blocks, Done as IsDone, IsFull, Refuses}
 use Rattle.iso_history.specs.declared.entry.Act.{Act}
 use Rattle.iso_history.specs.declared.entry.Act.TheVariants.{Lock, Refused as Refusal, Stopped}
 use Rattle.iso_history.specs.declared.entry.Entry.{Entry}
@@ -26,6 +26,8 @@ coming_as Coming.Done = IsDone
 coming_as Coming.Full = IsFull
 coming_as Coming.AtLimit = AtLimit
 coming_as Coming.PastLog = Refuses (minus 964)
+coming_as Coming.Taken = Refuses (minus 803)
+coming_as (Coming.Blocked n m) = Blocks n m
 
 -- the outcome of a change that nothing but the log can keep from being made
 abbrev pub past_or_done : Bool → Outcome

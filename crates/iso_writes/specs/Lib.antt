@@ -1,2 +1,4 @@
 pub mod Changing
 pub mod Answers
+pub mod Walk
+pub mod Ordered

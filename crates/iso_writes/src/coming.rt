@@ -1,8 +1,10 @@
 //! What comes of a write: what its judging finds, and what its step answers.
 ghost use Rattle.std.specs.Prelude.{◌≡◌, true};
-ghost use Rattle.iso_writes.specs.Answers.{comes_at_limit, limited as limited_by};
+ghost use Rattle.iso_writes.specs.Walk.{is_done};
+ghost use Rattle.iso_writes.specs.Answers.{coming_as, comes_at_limit, limited as limited_by};
 
 use iso_locks::Answer;
+use iso_modes::Mode;
 use iso_types::{Name, TableId};
 
 /// What comes of a write. `Blocked`: another connection's lock on that name is in its way, and it waits; `Escalates`: the
@@ -17,14 +19,26 @@ pub enum Written {
     Full,
 }
 
-/// What an insertion comes to before it is made: it can be done, or its table has all its slots, its need is at a lock limit,
-/// or it is past the log.
+/// What an insertion or an update comes to before it is made: it can be done, its table has all its slots, its need is at a
+/// lock limit, it is past the log, another row has its key in a unique index, or another connection's lock on that name is in
+/// its way, for which the name is asked for in that mode.
 #[derive(Clone, Copy, PartialEq, Eq)]
 pub enum Coming {
     Done,
     Full,
     AtLimit,
     PastLog,
+    Taken,
+    Blocked(Name, Mode),
+}
+
+impl Coming {
+    /// Whether nothing is in the way.
+    pub fn is_done(&self) -> bool
+        ensures { result ≡ is_done (coming_as self.now) }
+    {
+        matches!(self, Coming::Done)
+    }
 }
 
 /// The answer to a write at the lock limit.

@@ -3,7 +3,11 @@
 
 mod changing;
 mod coming;
+mod indexes;
 mod judging;
+mod keys;
+mod rivals;
+mod slots;
 mod steps;
 mod writing;
 

@@ -147,5 +147,7 @@ pub fn insert(
         Coming::Full => Ok(Written::Full),
         Coming::AtLimit => limit(parts, conn),
         Coming::PastLog => refuse_past(parts, conn),
+        Coming::Taken => unreachable!(),
+        Coming::Blocked(_, _) => unreachable!(),
     }
 }

@@ -15,4 +15,4 @@ returns-in-Ok-clause-stepped c =
     let a = written_by p.head (world_of p) c.args.conn (acts.Insert c.args.table (next_rid (world_of p) c.args.table) c.args.row.now) (inserts p.head (world_of p) c.args.conn c.args.table c.args.row.now) in
     subst (λ k. HasStepped p.head p.history.items q.history.items c.args.conn a k) (sym c.step_of_write.ensures)
     (insert-stepped p.head p.history.items q.history.items c.args.conn c.requires.runs.0 q.head c.in-Ok.ensures.head c.in-Ok.written c.waits.result c.waits.ensures
-    c.args.table c.args.row.now c.requires.plain c.in-Ok.ensures.ok c.in-Ok.ensures.answer)
+    c.requires.stands.stands.ground c.args.table c.args.row.now c.requires.may c.in-Ok.ensures.ok c.in-Ok.ensures.answer)

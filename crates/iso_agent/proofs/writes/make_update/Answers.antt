@@ -1,3 +1,4 @@
+use Rattle.std.proofs.lemmas.Bool.{and_parts}
 use Rattle.std.proofs.Common.{subst, sym}
 use Rattle.iso_agent.proofs.WriteStepping.{update-stepped}
 use Rattle.iso_agent.specs.Steps.{HasStepped}
@@ -14,4 +15,4 @@ returns-in-Ok-clause-stepped c =
     let a = written_by p.head (world_of p) c.args.conn (acts.Update c.args.table c.args.rid c.args.row.now) (updates p.head (world_of p) c.args.conn c.args.table c.args.rid c.args.row.now) in
     subst (λ k. HasStepped p.head p.history.items q.history.items c.args.conn a k) (sym c.step_of_write.ensures)
     (update-stepped p.head p.history.items q.history.items c.args.conn c.requires.runs.0 q.head c.in-Ok.ensures.head c.in-Ok.written c.waits.result c.waits.ensures
-    c.args.table c.args.rid c.args.row.now c.requires.plain c.in-Ok.ensures.ok c.in-Ok.ensures.answer)
+    c.requires.stands.stands.ground c.args.table c.args.rid c.args.row.now (and_parts _ _ c.requires.may).0 c.in-Ok.ensures.ok c.in-Ok.ensures.answer)

@@ -1,5 +1,4 @@
 use Rattle.iso_script.proofs.Exact.{one_way, not_both, one_script, one_bad}
-use Rattle.iso_script.proofs.BuiltLaws.{reads-built}
 use Rattle.iso_script.proofs.NumberLaws.{reads-rising}
 use Rattle.iso_script.proofs.SoundLaws.{reads-sound}
 use Rattle.iso_script.proofs.read.exactly_one.Goals as goal
@@ -15,9 +14,6 @@ returns-clause-one_script c = one_script
 
 pub returns-clause-one_bad : goal.returns-clause-one_bad
 returns-clause-one_bad c = one_bad
-
-pub returns-clause-built : goal.returns-clause-built
-returns-clause-built c = reads-built
 
 pub returns-clause-rising : goal.returns-clause-rising
 returns-clause-rising c = reads-rising

@@ -18,4 +18,4 @@ pub returns-clause-one_fault : goal.returns-clause-one_fault
 returns-clause-one_fault c = one_fault
 
 pub returns-clause-sound : goal.returns-clause-sound
-returns-clause-sound c = λ head text x a. statement-sound head text (tokens text) (checked x None) a.0 refl
+returns-clause-sound c = λ head text x a. statement-sound head text (tokens text) (checked x None) a refl

@@ -5,4 +5,4 @@ pub returns-in-Some : goal.returns-in-Some
 returns-in-Some c = told_fault c.args.head.now c.args.text.now c.args.found.now c.in-Ok.checked c.in-Some.fault c.at_place.result c.requires.tokens c.in-Ok.ensures c.in-Some.is c.at_place.ensures
 
 pub returns-in-None : goal.returns-in-None
-returns-in-None c = told_value c.args.head.now c.args.text.now c.args.found.now c.in-Ok.checked c.built.result c.requires.tokens c.in-Ok.ensures c.in-None.is c.built.ensures
+returns-in-None c = told_value c.args.head.now c.args.text.now c.args.found.now c.in-Ok.checked c.requires.tokens c.in-Ok.ensures c.in-None.is

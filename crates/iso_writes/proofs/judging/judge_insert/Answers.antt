@@ -6,6 +6,10 @@ pub is_table_full-requires-clause-table : goal.is_table_full-requires-clause-tab
 is_table_full-requires-clause-table c =
     table-there c.args.parts.now c.args.parts.now c.args.table c.args.row.now c.requires.stands refl c.requires.row
 
-pub row_need-requires-clause-table : goal.row_need-requires-clause-table
-row_need-requires-clause-table c =
+pub next_slot-rid-requires-clause-table : goal.next_slot-rid-requires-clause-table
+next_slot-rid-requires-clause-table c =
+    table-there c.args.parts.now c.args.parts.now c.args.table c.args.row.now c.requires.stands refl c.requires.row
+
+pub row_need-more-requires-clause-table : goal.row_need-more-requires-clause-table
+row_need-more-requires-clause-table c =
     table-there c.args.parts.now c.args.parts.now c.args.table c.args.row.now c.requires.stands refl c.requires.row

@@ -1,6 +1,6 @@
 use Rattle.std.proofs.Common.{◌≡◌, List, refl, subst, sym, true}
 use Rattle.std.specs.List.{list_all}
-use Rattle.iso_agent.proofs.ScansAlong.{plain-at}
+use Rattle.iso_agent.proofs.ScansAlong.{point-sound}
 use Rattle.iso_agent.proofs.Turning.{ended-leaves, made-at, stepped-leaves, stops-made}
 use Rattle.iso_agent.specs.Steps.{HasStepped, act_due}
 use Rattle.iso_agent.specs.Turns.{Leaves}
@@ -11,7 +11,7 @@ use Rattle.iso_history.specs.Phases.{phase}
 use Rattle.iso_history.specs.declared.entry.Act.TheVariants as acts
 use Rattle.iso_history.specs.declared.entry.Entry.{Entry}
 use Rattle.iso_history.specs.declared.entry.Who.TheVariants as makers
-use Rattle.iso_script.specs.Sound.{is_sound_line}
+use Rattle.iso_script.specs.Sound.{IsSoundHead, is_sound_line}
 use Rattle.iso_standing.proofs.AtReady.{quiet-at}
 use Rattle.iso_state.specs.Stands.{world_of}
 use Rattle.iso_types.specs.declared.head.Head.{Head}
@@ -30,8 +30,9 @@ pub step_due-requires-clause-scans : goal.step_due-requires-clause-scans
 step_due-requires-clause-scans c =
     let p = c.args.parts.now in
     let lines = c.args.script.now.lines in
-    (plain-at p.head lines c.args.self.now.conn c.requires.plain (subst (λ h. list_all (is_sound_line h) lines ≡ true) (sym c.requires.head) c.requires.sound.lines)
-    p.history.items c.args.task c.requires.conduct c.requires.ready).within
+    (point-sound p.head lines c.args.self.now.conn (subst IsSoundHead (sym c.requires.head) c.requires.sound.head)
+    (subst (λ h. list_all (is_sound_line h) lines ≡ true) (sym c.requires.head) c.requires.sound.lines)
+    p.history.items c.args.task c.requires.stands.stands.ground c.requires.conduct c.requires.ready).within
 
 pub stop-requires-clause-by : goal.stop-requires-clause-by
 stop-requires-clause-by c =
@@ -65,12 +66,13 @@ returns-in-Goes-clause-leaves c =
     let conn = c.args.self.now.conn in
     let lines = c.args.script.now.lines in
     let sound = subst (λ h. list_all (is_sound_line h) lines ≡ true) (sym c.requires.head) c.requires.sound.lines in
-    let plain = plain-at p.head lines conn c.requires.plain sound p.history.items c.args.task c.requires.conduct c.requires.ready in
+    let good = subst IsSoundHead (sym c.requires.head) c.requires.sound.head in
+    let at = point-sound p.head lines conn good sound p.history.items c.args.task c.requires.stands.stands.ground c.requires.conduct c.requires.ready in
     let stepped = subst (λ s. HasStepped p.head p.history.items m.history.items conn (act_due p.head (world_of p) conn c.args.task) s) c.in-Goes.is c.step_due.ensures.stepped in
     let ground = subst (λ h. Ground h m.history.items) c.step_due.ensures.head c.step_due.ensures.stands.stands.ground in
     subst (λ t. Leaves p.head lines m.history.items conn (Some t) c.in-Goes.kept) (sym (c.in-Goes.ensures.same refl))
     (stepped-leaves p.head lines p.history.items conn c.args.task c.requires.stands.stands.ground c.requires.conduct c.requires.goes c.requires.ready
-    m.history.items ground c.requires.stands.stands.fits.conns c.requires.stands.stands.fits.rows plain c.in-Goes.kept stepped)
+    m.history.items ground c.requires.stands.stands.fits.conns c.requires.stands.stands.fits.rows at c.in-Goes.kept stepped)
 
 pub returns-in-Over-clause-leaves : goal.returns-in-Over-clause-leaves
 returns-in-Over-clause-leaves c =

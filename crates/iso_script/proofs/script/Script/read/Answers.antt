@@ -1,11 +1,7 @@
 use Rattle.std.proofs.Common.{refl}
-use Rattle.iso_script.proofs.BuiltLaws.{reads-built}
 use Rattle.iso_script.proofs.NumberLaws.{reads-rising}
 use Rattle.iso_script.proofs.SoundLaws.{reads-sound}
 use Rattle.iso_script.proofs.script.Script.read.Goals as goal
-
-pub returns-clause-built : goal.returns-clause-built
-returns-clause-built c = reads-built c.args.bytes.now c.in_ok-reader.reader.script (c.in_ok-reader.reader, c.in_ok-reader.ensures.read, refl)
 
 pub returns-clause-rising : goal.returns-clause-rising
 returns-clause-rising c = reads-rising c.args.bytes.now c.in_ok-reader.reader.script (c.in_ok-reader.reader, c.in_ok-reader.ensures.read, refl)
