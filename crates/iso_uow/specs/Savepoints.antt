@@ -1,8 +1,16 @@
 -- The savepoints of a unit, newest first.
 use Rattle.std.specs.Option.{option_map}
-use Rattle.std.specs.Prelude.{ℕ, Bool, not, List, [], ◌∷◌, if◌then◌else◌, filter, find, Option}
+use Rattle.std.specs.Prelude.{ℕ, Bool, not, List, [], ◌∷◌, if◌then◌else◌, filter, find, map, reverse, Option}
 use Rattle.iso_types.specs.Ids.{text_eq}
 use Rattle.iso_uow.specs.declared.marks.Savepoint.{Savepoint}
+
+-- a name and its number of records, as a savepoint
+abbrev pub savepoint_at : List ℕ × ℕ → Savepoint
+savepoint_at e = record { name = e.0; at = e.1 }
+
+-- names with their numbers in the order in which they were set, as the savepoints, newest first
+abbrev pub newest_first : List (List ℕ × ℕ) → List Savepoint
+newest_first es = reverse (map savepoint_at es)
 
 -- the savepoint has this name
 abbrev pub is_named : List ℕ → Savepoint → Bool

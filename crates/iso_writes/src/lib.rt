@@ -5,10 +5,12 @@ mod changing;
 mod coming;
 mod indexes;
 mod judging;
+mod keying;
 mod keys;
 mod rivals;
 mod slots;
 mod steps;
+mod taking;
 mod writing;
 
 pub use coming::Written;

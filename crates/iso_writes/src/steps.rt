@@ -14,7 +14,7 @@ ghost use Rattle.iso_state.specs.Stands.{StandsFor, content_of, world_of};
 ghost use Rattle.iso_writes.specs.Answers.{answer_of, appended};
 
 use crate::coming::{Coming, Written, limited};
-use crate::judging::{is_delete_past, is_update_past, judge_insert};
+use crate::judging::{is_delete_past, judge_insert, judge_update};
 use crate::writing::{make_delete, make_insert, make_update, refuse};
 use iso_locks::escalate;
 use iso_state::Parts;
@@ -97,7 +97,6 @@ pub fn update(
     requires runs { Runs (world_of parts.old) conn }
     requires may { may_change parts.old.head (world_of parts.old) conn table rid ≡ true }
     requires row { row_fits parts.old.head table row.now ≡ true }
-    requires plain { length parts.old.head.indexes ≡ 0 } // keys come next
     ensures stands { StandsFor parts.new }
     ensures head { parts.new.head ≡ parts.old.head }
     ensures answer { IfOk result (λ a. a ≡ answer_of (written_by parts.old.head (world_of parts.old) conn (acts.Update table rid row.now) (updates parts.old.head (world_of parts.old) conn table rid row.now))) }
@@ -105,11 +104,17 @@ pub fn update(
     ensures ok { OnOk result (parts.new.history.items ≡ parts.old.history.items ++ by_agent conn (written_by parts.old.head (world_of parts.old) conn (acts.Update table rid row.now) (updates parts.old.head (world_of parts.old) conn table rid row.now)) ∷ []) }
     ensures err { OnErr result (content_of parts.new ≡ content_of parts.old) }
 {
-    if is_update_past(parts, conn, table, rid, row) {
-        return refuse_past(parts, conn);
+    match judge_update(parts, conn, table, rid, row) {
+        Coming::Done => {
+            make_update(alloc, parts, conn, table, rid, row)?;
+            Ok(Written::Done)
+        }
+        Coming::Full => unreachable!(),
+        Coming::AtLimit => limit(parts, conn),
+        Coming::PastLog => refuse_past(parts, conn),
+        Coming::Taken => unreachable!(),
+        Coming::Blocked(_, _) => unreachable!(),
     }
-    make_update(alloc, parts, conn, table, rid, row)?;
-    Ok(Written::Done)
 }
 
 /// Inserts the row into the table's next slot, and locks it in X. `Done`; `Full`: the table has its 65,536 slots, and nothing
@@ -131,7 +136,6 @@ pub fn insert(
     requires runs { Runs (world_of parts.old) conn }
     requires may { may_write (world_of parts.old) conn table ≡ true }
     requires row { row_fits parts.old.head table row.now ≡ true }
-    requires plain { length parts.old.head.indexes ≡ 0 } // keys come next
     ensures stands { StandsFor parts.new }
     ensures head { parts.new.head ≡ parts.old.head }
     ensures answer { IfOk result (λ a. a ≡ answer_of (written_by parts.old.head (world_of parts.old) conn (acts.Insert table (next_rid (world_of parts.old) table) row.now) (inserts parts.old.head (world_of parts.old) conn table row.now))) }

@@ -1,10 +1,11 @@
 use Rattle.std.proofs.Common.{◌≡◌, length}
-use Rattle.std.specs.Prelude.{reverse}
-use Rattle.iso_uow.specs.Savepoints.{down_to}
+use Rattle.indexmap.specs.IndexMap.{IsUnique}
+use Rattle.iso_types.specs.Ids.{text_eq}
+use Rattle.iso_uow.specs.Savepoints.{down_to, newest_first}
 use Rattle.iso_uow.proofs.marks.pop_to.Given as goal
 
-abbrev pub invariant-loop-mark : goal.invariant-loop-mark
-invariant-loop-mark l = down_to l.name (reverse l.list.items) ≡ down_to l.name (reverse l.initial.list.items)
+abbrev pub invariant-loop-last : goal.invariant-loop-last
+invariant-loop-last l = IsUnique text_eq l.places × (down_to l.name (newest_first l.places.entries) ≡ down_to l.name (newest_first l.initial.places.entries))
 
-abbrev pub decreases-loop-mark : goal.decreases-loop-mark
-decreases-loop-mark l = length l.list.items
+abbrev pub decreases-loop-last : goal.decreases-loop-last
+decreases-loop-last l = length l.places.entries
