@@ -187,10 +187,11 @@ impl Director {
     /// entry, where it may be taken; where no line is left or somebody stopped, the close of the least idle connection once all is
     /// quiet, and at last the end of the history. For want of memory, or of room in the history, the dispatcher stops in place of
     /// a purge or a line's entry. `Ran`: one entry is made. `Rests`: it has none to make; `Ended`: the history is over; all is as
-    /// it was then. It looks at no line but the next, and at the pairs of the indexes as `purge` does. A circle is sought at each
-    /// call, as by `detect`: where fewer than two connections wait the phases alone are looked at; else the lock list is asked once
-    /// for each connection that waits, and up to three times more where a line or a close wants quiet. A SNAPSHOT sorts the names
-    /// of all locks. (This project's own.)
+    /// it was then. It looks at no line but the next. Each entry of the history is looked at once: as long as none commits or undoes
+    /// after no pair of an index was stale, nothing is purgeable; else all pairs are looked at, as by `has_stale`, and by `purge`
+    /// where one is stale. A circle is sought at each call, as by `detect`: where fewer than two connections wait the phases alone
+    /// are looked at; else the lock list is asked once for each connection that waits, and up to three times more where a line or a
+    /// close wants quiet. A SNAPSHOT sorts the names of all locks. (This project's own.)
     pub fn make(&mut self, script: &Script, parts: &mut Parts) -> Led
         requires stands { StandsFor parts.old }
         requires head { parts.old.head ≡ script.now.head }
