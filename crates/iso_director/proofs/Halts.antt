@@ -39,7 +39,7 @@ unfolding GroundFrom world_from
 last-from head w [] e g = g.0
 last-from head w (x ∷ xs) e g = last-from head (after head w x) xs e g.1
 
-last-stands : (head : Head) (es : List Entry) (e : Entry) → Ground head (es ++ e ∷ []) → Allowed head (world head es) e
+pub last-stands : (head : Head) (es : List Entry) (e : Entry) → Ground head (es ++ e ∷ []) → Allowed head (world head es) e
 unfolding Ground world
 last-stands head es e g = last-from head (start head) es e g
 

@@ -5,3 +5,4 @@ pub mod Endings
 pub mod Tries
 pub mod Halts
 pub mod Leads
+pub mod FreshAlong

@@ -2,6 +2,7 @@
 #![tactic(auto)]
 
 mod director;
+mod freshness;
 mod taking;
 
 pub use director::{Director, Led};

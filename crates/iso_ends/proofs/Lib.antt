@@ -8,3 +8,5 @@ pub mod Halts
 pub mod StaleReads
 pub mod PurgeWalks
 pub mod PurgeSteps
+pub mod StaleAfter
+pub mod StaleWalks

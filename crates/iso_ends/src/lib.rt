@@ -5,6 +5,7 @@ mod answers;
 mod ending;
 mod purging;
 mod savepoints;
+mod staleness;
 mod stopping;
 mod undoing;
 
@@ -12,5 +13,6 @@ pub use answers::{reply, set};
 pub use ending::{commit, ended, rollback_end};
 pub use purging::{purge, purgeable};
 pub use savepoints::{back, mark};
+pub use staleness::{has_stale, no_fresh_pair_is_purged, pairs_stay_fresh};
 pub use stopping::stopped;
 pub use undoing::undo_one;

@@ -55,7 +55,7 @@ fn find_slot(parts: &Parts, table: TableId, rid: Rid) -> Option<&Slot>
 }
 
 /// Whether no version of the pair's slot is pending, and its committed row is not there or has another key.
-fn is_stale(parts: &Parts, index: IndexId, def: &IndexDef, pair: &(Value, Rid)) -> bool
+pub(crate) fn is_stale(parts: &Parts, index: IndexId, def: &IndexDef, pair: &(Value, Rid)) -> bool
     requires stands { StandsFor parts.now }
     requires def { slice_get parts.now.head.indexes index.0 ≡ Some def.now }
     ensures { result ≡ (not (is_pending (versions (world_of parts.now) def.now.table pair.now.1))
@@ -124,7 +124,6 @@ fn least_of(parts: &Parts, index: IndexId) -> Option<(Value, Rid)>
 /// The least purgeable pair, by index, key and rid.
 fn least(parts: &Parts) -> Option<(IndexId, (Value, Rid))>
     requires stands { StandsFor parts.now }
-    requires few { length parts.now.head.indexes ≤ 32 }
     ensures { result ≡ least_purgeable parts.now.head (world_of parts.now) }
 {
     for at in 0..parts.head.indexes.len() {
@@ -178,7 +177,6 @@ fn purge_pair(parts: &mut Parts, index: IndexId, key: &Value, rid: Rid) -> Resul
 /// 'Index cleanup and maintenance'; when pairs are purged is this project's own.
 pub fn purge(parts: &mut Parts) -> Result<bool, StepFault>
     requires stands { StandsFor parts.old }
-    requires few { length parts.old.head.indexes ≤ 32 }
     requires open { (world_of parts.old).pace.finished ≡ false }
     requires going { (world_of parts.old).pace.stopped ≡ false }
     requires calm { (world_of parts.old).pace.purged ≡ false }
@@ -203,7 +201,6 @@ pub fn purge(parts: &mut Parts) -> Result<bool, StepFault>
 /// Whether a pair is purgeable: whether `purge` would find one. It looks at as many pairs.
 pub fn purgeable(parts: &Parts) -> bool
     requires stands { StandsFor parts.now }
-    requires few { length parts.now.head.indexes ≤ 32 }
     ensures { result ≡ is_some (least_purgeable parts.now.head (world_of parts.now)) }
 {
     least(parts).is_some()

@@ -1,8 +1,10 @@
 -- A run before its first entry.
-use Rattle.std.proofs.Common.{◌≡◌, ℕ, true, List, [], refl, sym, drop, subst}
+use Rattle.std.proofs.Common.{◌≡◌, ℕ, true, List, [], None, refl, sym, ap, drop, subst}
 use Rattle.iso_conduct.proofs.Progress.{some-able}
 use Rattle.iso_conduct.specs.Pacing.{Paced, PacedFrom, lines_from, lines_left}
 use Rattle.iso_director.specs.Director.{HasTaken}
+use Rattle.iso_director.specs.Freshness.{WasFresh}
+use Rattle.iso_director.specs.declared.director.Director.{Director}
 use Rattle.iso_history.specs.After.{world, world_from}
 use Rattle.iso_history.specs.Legal.{Ground, GroundFrom}
 use Rattle.iso_history.specs.declared.entry.Entry.{Entry}
@@ -12,13 +14,18 @@ use Rattle.iso_script.specs.declared.script.Script.{Script}
 use Rattle.iso_serial.proofs.Circle.{first-leads}
 use Rattle.iso_serial.specs.Rounds.{could_act}
 
--- no line is taken
-none-taken : (script : Script) → HasTaken script [] 0
+-- no line is taken, and nothing is known of stale pairs
+none-taken : (script : Script) (d : Director) → d.taken ≡ 0 → d.fresh ≡ None → HasTaken script [] d
 unfolding Paced PacedFrom lines_left lines_from
-none-taken script = record { paced = tt; left = refl }
+none-taken script d zeroth unknown = record {
+  paced = tt;
+  left = ap (λ (n : ℕ). drop n script.lines) (sym zeroth);
+  fresh = subst (WasFresh script.head []) (sym unknown) tt;
+}
 
-pub first-taken : (script : Script) (es : List Entry) (taken : ℕ) → es ≡ [] → taken ≡ 0 → HasTaken script es taken
-first-taken script es taken none zeroth = rw (none, zeroth) (none-taken script)
+pub first-taken : (script : Script) (es : List Entry) (d : Director) → es ≡ [] → d.taken ≡ 0 → d.fresh ≡ None → HasTaken script es d
+first-taken script es d none zeroth unknown =
+    subst (λ (fs : List Entry). HasTaken script fs d) (sym none) (none-taken script d zeroth unknown)
 
 -- the dispatcher alone can act
 begins : (script : Script) → IsSound script → could_act script [] Dispatcher ≡ true

@@ -7,7 +7,9 @@ use Rattle.iso_conduct.proofs.Progress.{bounded, some-able}
 use Rattle.iso_conduct.specs.Conduct.{Conduct}
 use Rattle.iso_conduct.specs.Legal.{IsLegal}
 use Rattle.iso_conduct.specs.Schedule.{actors}
+use Rattle.iso_director.proofs.FreshAlong.{fresh-as}
 use Rattle.iso_director.specs.Director.{HasTaken}
+use Rattle.iso_director.specs.declared.director.Director.{Director}
 use Rattle.iso_history.specs.After.{world}
 use Rattle.iso_history.specs.Legal.{Ground}
 use Rattle.iso_history.specs.Stops.{history_limit}
@@ -23,14 +25,18 @@ use Rattle.iso_serial.specs.Rounds.{HasMade, agent, could_act}
 use Rattle.iso_serial.specs.UnderWay.{AreRested, agent_at}
 
 -- the agents' entries take no line
-pub agent-taken : (script : Script) (old new : List Entry) (c taken : ℕ) → HasMade script old new (agent c)
-    → HasTaken script old taken → HasTaken script new taken
-agent-taken script old new c taken m t = record { paced = paced-agent script old new c m t.paced; left = left-agent script old new c m ∙ t.left }
+pub agent-taken : (script : Script) (old new : List Entry) (c : ℕ) (d : Director) → HasMade script old new (agent c)
+    → HasTaken script old d → HasTaken script new d
+agent-taken script old new c d m t = record {
+  paced = paced-agent script old new c m t.paced;
+  left = left-agent script old new c m ∙ t.left;
+  fresh = fresh-as script.head old new _ d.fresh m.history t.fresh;
+}
 
 -- what the agents and the dispatcher have kept to, together
-pub legal-of : (script : Script) (es : List Entry) (agents : List Agent) (taken : ℕ) → Ground script.head es → AreRested script es agents
-    → HasTaken script es taken → IsLegal script es
-legal-of script es agents taken g r t = record {
+pub legal-of : (script : Script) (es : List Entry) (agents : List Agent) (d : Director) → Ground script.head es → AreRested script es agents
+    → HasTaken script es d → IsLegal script es
+legal-of script es agents d g r t = record {
   ground = g;
   conduct = λ c known.
       let lt : c.0 < length agents = subst (λ (n : ℕ). c.0 < n) (sym r.count) (ltb-true c.0 (length script.head.conns) known) in
@@ -39,9 +45,9 @@ legal-of script es agents taken g r t = record {
 }
 
 -- where the history has not finished, some actor of the circle can act
-pub goes-on : (script : Script) (head : Head) (es : List Entry) (taken : ℕ) → head ≡ script.head → IsSound script → Ground head es
-    → HasTaken script es taken → (world head es).pace.finished ≡ false → list_any (could_act script es) (actors script.head) ≡ true
-goes-on script head es taken same sound g t going =
+pub goes-on : (script : Script) (head : Head) (es : List Entry) (d : Director) → head ≡ script.head → IsSound script → Ground head es
+    → HasTaken script es d → (world head es).pace.finished ≡ false → list_any (could_act script es) (actors script.head) ≡ true
+goes-on script head es d same sound g t going =
     some-able script es sound (subst (λ (h : Head). Ground h es) same g) t.paced (subst (λ (h : Head). (world h es).pace.finished ≡ false) same going)
 
 -- each turn comes nearer to the limit

@@ -21,10 +21,10 @@ fn try_director(script: &Script, parts: &mut Parts, director: &mut Director) -> 
     requires plain { length parts.old.head.indexes ≡ 0 } // keys come next
     requires head { parts.old.head ≡ script.now.head }
     requires sound { IsSound script.now }
-    requires taken { HasTaken script.now parts.old.history.items director.old.taken }
+    requires taken { HasTaken script.now parts.old.history.items director.old }
     ensures stands { StandsFor parts.new }
     ensures head { parts.new.head ≡ parts.old.head }
-    ensures taken { HasTaken script.now parts.new.history.items director.new.taken }
+    ensures taken { HasTaken script.now parts.new.history.items director.new }
     ensures tried { HasTried script.now parts.old.history.items parts.new.history.items Dispatcher result }
 {
     matches!(director.make(script, parts), Led::Ran)
@@ -36,11 +36,11 @@ pub fn take_first_turn(script: &Script, parts: &mut Parts, director: &mut Direct
     requires plain { length parts.old.head.indexes ≡ 0 } // keys come next
     requires head { parts.old.head ≡ script.now.head }
     requires sound { IsSound script.now }
-    requires taken { HasTaken script.now parts.old.history.items director.old.taken }
+    requires taken { HasTaken script.now parts.old.history.items director.old }
     requires none { parts.old.history.items ≡ [] }
     ensures stands { StandsFor parts.new }
     ensures head { parts.new.head ≡ parts.old.head }
-    ensures taken { HasTaken script.now parts.new.history.items director.new.taken }
+    ensures taken { HasTaken script.now parts.new.history.items director.new }
     ensures made { HasMade script.now parts.old.history.items parts.new.history.items Dispatcher }
 {
     if !try_director(script, parts, director) {
@@ -62,13 +62,13 @@ pub fn take_turn(
     requires plain { length parts.old.head.indexes ≡ 0 } // keys come next
     requires head { parts.old.head ≡ script.now.head }
     requires sound { IsSound script.now }
-    requires taken { HasTaken script.now parts.old.history.items director.old.taken }
+    requires taken { HasTaken script.now parts.old.history.items director.old }
     requires rested { AreRested script.now parts.old.history.items agents.old.items }
     requires goes_on { (world_of parts.old).pace.finished ≡ false }
     requires within { last ≤ vec_len agents.old }
     ensures stands { StandsFor parts.new }
     ensures head { parts.new.head ≡ parts.old.head }
-    ensures taken { HasTaken script.now parts.new.history.items director.new.taken }
+    ensures taken { HasTaken script.now parts.new.history.items director.new }
     ensures rested { AreRested script.now parts.new.history.items agents.new.items }
     ensures made { HasMade script.now parts.old.history.items parts.new.history.items (actor result) }
     ensures whose { find (could_act script.now parts.old.history.items) (after_actor script.now.head (actor last)) ≡ Some (actor result) }

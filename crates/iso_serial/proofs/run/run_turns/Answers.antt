@@ -13,7 +13,7 @@ use Rattle.iso_serial.proofs.run.run_turns.Goals as goal
 
 pub take_first_turn-requires-clause-taken : goal.take_first_turn-requires-clause-taken
 take_first_turn-requires-clause-taken c =
-    first-taken c.args.script.now c.args.parts.now.history.items c.new-director.result.taken c.requires.none c.new-director.ensures
+    first-taken c.args.script.now c.args.parts.now.history.items c.new-director.result c.requires.none c.new-director.ensures.taken c.new-director.ensures.fresh
 
 pub turns-init : goal.turns-init
 turns-init c =
@@ -58,7 +58,7 @@ pub returns-clause-legal : goal.returns-clause-legal
 returns-clause-legal c =
     let script = c.args.script.now in
     let es = c.turns.parts.history.items in
-    legal-of script es c.turns.agents.items c.turns.director.taken
+    legal-of script es c.turns.agents.items c.turns.director
     (subst (λ (h : Head). Ground h es) (c.turns.invariant.head ∙ c.requires.head) c.turns.invariant.stands.ground) c.turns.invariant.rested
     c.turns.invariant.taken
 

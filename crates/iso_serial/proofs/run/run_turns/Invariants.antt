@@ -10,7 +10,7 @@ abbrev pub invariant-turns : goal.invariant-turns
 invariant-turns l = record {
   stands : StandsFor l.parts;
   head : l.parts.head ≡ l.fn.parts.head;
-  taken : HasTaken l.script l.parts.history.items l.director.taken;
+  taken : HasTaken l.script l.parts.history.items l.director;
   rested : AreRested l.script l.parts.history.items l.agents.items;
   within : l.last ≤ vec_len l.agents;
   scheduled : IsAfter l.script l.parts.history.items (actor l.last);

@@ -11,7 +11,7 @@ use Rattle.iso_serial.proofs.turns.take_turn.Goals as goal
 
 pub returns-in-Some-clause-taken : goal.returns-in-Some-clause-taken
 returns-in-Some-clause-taken c =
-    agent-taken c.args.script.now c.args.parts.now.history.items c.ask_agents.new.parts.history.items c.in-Some.at c.args.director.now.taken
+    agent-taken c.args.script.now c.args.parts.now.history.items c.ask_agents.new.parts.history.items c.in-Some.at c.args.director.now
     c.in-Some.ensures.asked.0 c.requires.taken
 
 pub returns-in-Some-clause-whose : goal.returns-in-Some-clause-whose
@@ -55,14 +55,14 @@ unreachable-requires c =
     subst (HasTried script mid next Dispatcher) c.if-try_director.false c.try_director.ensures.tried in
     let none = no-turn script old c.args.last c.len-count.result all mid c.in_default.ensures.asked next tried
     c.ask_agents-2.new.parts.history.items c.in-None.ensures.asked in
-    let some = goes-on script c.args.parts.now.head old c.args.director.now.taken c.requires.head c.requires.sound c.requires.stands.ground
+    let some = goes-on script c.args.parts.now.head old c.args.director.now c.requires.head c.requires.sound c.requires.stands.ground
     c.requires.taken c.requires.goes_on in
     both_ways _ none some
 
 pub returns-clause-taken : goal.returns-clause-taken
 returns-clause-taken c =
     agent-taken c.args.script.now c.try_director.new.parts.history.items c.ask_agents-2.new.parts.history.items c.in-Some-ask_agents.at
-    c.try_director.new.director.taken c.in-Some-ask_agents.ensures.asked.0 c.try_director.ensures.taken
+    c.try_director.new.director c.in-Some-ask_agents.ensures.asked.0 c.try_director.ensures.taken
 
 pub returns-clause-whose : goal.returns-clause-whose
 returns-clause-whose c =

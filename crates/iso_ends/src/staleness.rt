@@ -1,0 +1,83 @@
+//! Stale pairs: those that a purge may take once nobody uses their key's name.
+
+ghost use Rattle.std.specs.Prelude.{◌≡◌, ◌<◌, find, false, is_some, length, slice_get, None, Some};
+ghost use Rattle.iso_ends.specs.Purges.{NoneStale, TablesThere, any_stale, is_stale_at as stale_at, may_ripen};
+ghost use Rattle.iso_history.specs.After.{after};
+ghost use Rattle.iso_history.specs.Entries.{entries_of, least_purgeable};
+ghost use Rattle.iso_history.specs.Legal.{Allowed};
+ghost use Rattle.iso_history.specs.World.{World};
+ghost use Rattle.iso_history.specs.declared.entry.Entry.{Entry};
+ghost use Rattle.iso_key.specs.Pages.{entries};
+ghost use Rattle.iso_state.specs.Stands.{StandsFor, content_of, world_of};
+ghost use Rattle.iso_types.specs.declared.head.Head.{Head};
+
+use crate::purging::is_stale;
+use iso_key::KeyIndex;
+use iso_state::Parts;
+use iso_types::{IndexDef, IndexId, Rid, Value};
+
+/// Where no pair is stale, none is after an entry that neither commits nor undoes: a slot that is changed has a pending version.
+pub fn pairs_stay_fresh()
+    ensures { (head : Head) (w : World) (e : Entry) → Allowed head w e → TablesThere head w → may_ripen e.act ≡ false → NoneStale head w
+        → NoneStale head (after head w e) }
+{}
+
+/// Where no pair is stale, none is purgeable.
+pub fn no_fresh_pair_is_purged()
+    ensures { (head : Head) (w : World) → any_stale head w ≡ false → (NoneStale head w) × (least_purgeable head w ≡ None) }
+{}
+
+/// Whether the pair is stale.
+fn is_stale_pair(parts: &Parts, index: IndexId, def: &IndexDef, pair: &(Value, Rid)) -> bool
+    requires stands { StandsFor parts.now }
+    requires def { slice_get parts.now.head.indexes index.0 ≡ Some def.now }
+    ensures { result ≡ stale_at parts.now.head (world_of parts.now) index pair.now }
+{
+    is_stale(parts, index, def, pair)
+}
+
+/// Whether a pair of the index is stale. It looks at its pairs up to that one, each found by halving, and at their slots.
+fn has_stale_pair(parts: &Parts, index: IndexId, def: &IndexDef, keys: &KeyIndex) -> bool
+    requires stands { StandsFor parts.now }
+    requires def { slice_get parts.now.head.indexes index.0 ≡ Some def.now }
+    requires keys { entries keys.now ≡ entries_of (world_of parts.now) index }
+    ensures { result ≡ is_some (find (stale_at parts.now.head (world_of parts.now) index) (entries_of (world_of parts.now) index)) }
+{
+    let mut next = keys.first_from(None);
+    while let Some(pair) = next {
+        if is_stale_pair(parts, index, def, &pair) {
+            return true;
+        }
+        next = keys.next_after(pair);
+    }
+    false
+}
+
+/// Whether a pair of the index is stale; none is where there is no such index.
+fn has_stale_in(parts: &Parts, index: IndexId) -> bool
+    requires stands { StandsFor parts.now }
+    ensures { result ≡ is_some (find (stale_at parts.now.head (world_of parts.now) index) (entries_of (world_of parts.now) index)) }
+{
+    let at = index.0 as usize;
+    match parts.head.indexes.get(at) {
+        Some(def) => match parts.indexes.get(at) {
+            Some(keys) => has_stale_pair(parts, index, def, keys),
+            None => false,
+        },
+        None => false,
+    }
+}
+
+/// Whether a pair of an index is stale: no version of its slot is pending, and its committed row is not there or has another
+/// key. It looks at all pairs of the indexes where none is. (This project's own.)
+pub fn has_stale(parts: &Parts) -> bool
+    requires stands { StandsFor parts.now }
+    ensures { result ≡ any_stale parts.now.head (world_of parts.now) }
+{
+    for at in 0..parts.head.indexes.len() {
+        if has_stale_in(parts, IndexId(at as u8)) {
+            return true;
+        }
+    }
+    false
+}
