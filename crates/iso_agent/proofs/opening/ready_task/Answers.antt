@@ -1,9 +1,8 @@
-use Rattle.std.proofs.Common.{◌≡◌, ◌⊎◌, ◌∙◌, [], Some, ap, length, subst, sym, true}
+use Rattle.std.proofs.Common.{◌≡◌, ◌⊎◌, ◌∙◌, Some, ap, length, subst, sym, true}
 use Rattle.std.proofs.lemmas.Bool.{lt-ltb}
 use Rattle.std.specs.Prelude.{is_some}
 use Rattle.iso_agent.proofs.Making.{runs-or-open}
 use Rattle.iso_agent.proofs.Quieting.{back-runs, quieted-thrice, ready-is}
-use Rattle.iso_agent.proofs.ScansBegin.{none-of}
 use Rattle.iso_agent.specs.Quiet.{RunsForBack}
 use Rattle.iso_conduct.specs.Conduct.{Conduct, point, quieted, ready}
 use Rattle.iso_conduct.specs.Points.{Point, due}
@@ -34,9 +33,9 @@ quieten-requires-clause-runs c =
     let t : Point = c.in_ok-task.task in
     let first : Point = quieted w conn (quieted w conn t) in
     let is = ready-is p.head lines w conn c.args.task (point p.head lines es conn) t c.requires.reached c.in_ok-task.ensures.ok in
-    let may = subst (λ (h : Head). h.indexes ≡ [] → Ground h es → Conduct h lines es conn → is_conn h conn ≡ true → GoesOn (world h es) conn
+    let may = subst (λ (h : Head). Ground h es → Conduct h lines es conn → is_conn h conn ≡ true → GoesOn (world h es) conn
     → ready h lines (world h es) conn (point h lines es conn) ≡ Some first → MayGoOn h (world h es) conn first) (sym c.requires.head)
-    (c.due_steps_may_be_made.ensures c.args.script.now es conn first c.requires.sound) (none-of p.head.indexes c.requires.plain) c.requires.stands.stands.ground
+    (c.due_steps_may_be_made.ensures c.args.script.now es conn first c.requires.sound) c.requires.stands.stands.ground
     c.requires.conduct (lt-ltb conn.0 (length p.head.conns) c.requires.conn) c.requires.goes is in
     back-runs p.head w conn t may
 
@@ -50,9 +49,9 @@ quieten-requires-2-clause-runs c =
     let t : Point = c.in_ok-task.task in
     let first : Point = quieted w conn (quieted w conn t) in
     let is = ready-is p.head lines w conn c.args.task (point p.head lines es conn) t c.requires.reached c.in_ok-task.ensures.ok in
-    let may = subst (λ (h : Head). h.indexes ≡ [] → Ground h es → Conduct h lines es conn → is_conn h conn ≡ true → GoesOn (world h es) conn
+    let may = subst (λ (h : Head). Ground h es → Conduct h lines es conn → is_conn h conn ≡ true → GoesOn (world h es) conn
     → ready h lines (world h es) conn (point h lines es conn) ≡ Some first → MayGoOn h (world h es) conn first) (sym c.requires.head)
-    (c.due_steps_may_be_made.ensures c.args.script.now es conn first c.requires.sound) (none-of p.head.indexes c.requires.plain) c.requires.stands.stands.ground
+    (c.due_steps_may_be_made.ensures c.args.script.now es conn first c.requires.sound) c.requires.stands.stands.ground
     c.requires.conduct (lt-ltb conn.0 (length p.head.conns) c.requires.conn) c.requires.goes is in
     subst (λ (x : Point). RunsForBack w conn (due x)) (sym c.quieten.ensures)
     (back-runs p.head w conn (quieted w conn t) (subst (MayGoOn p.head w conn) (sym (quieted-thrice w conn t)) may))
@@ -67,8 +66,8 @@ returns-clause-may c =
     let t : Point = c.in_ok-task.task in
     let first : Point = quieted w conn (quieted w conn t) in
     let is = ready-is p.head lines w conn c.args.task (point p.head lines es conn) t c.requires.reached c.in_ok-task.ensures.ok in
-    let may = subst (λ (h : Head). h.indexes ≡ [] → Ground h es → Conduct h lines es conn → is_conn h conn ≡ true → GoesOn (world h es) conn
+    let may = subst (λ (h : Head). Ground h es → Conduct h lines es conn → is_conn h conn ≡ true → GoesOn (world h es) conn
     → ready h lines (world h es) conn (point h lines es conn) ≡ Some first → MayGoOn h (world h es) conn first) (sym c.requires.head)
-    (c.due_steps_may_be_made.ensures c.args.script.now es conn first c.requires.sound) (none-of p.head.indexes c.requires.plain) c.requires.stands.stands.ground
+    (c.due_steps_may_be_made.ensures c.args.script.now es conn first c.requires.sound) c.requires.stands.stands.ground
     c.requires.conduct (lt-ltb conn.0 (length p.head.conns) c.requires.conn) c.requires.goes is in
     subst (MayGoOn p.head w conn) (sym (c.quieten-2.ensures ∙ ap (quieted w conn) c.quieten.ensures)) may
