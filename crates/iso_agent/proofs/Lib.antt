@@ -20,3 +20,4 @@ pub mod Quieting
 pub mod Making
 pub mod Dues
 pub mod NextStepping
+pub mod Entering

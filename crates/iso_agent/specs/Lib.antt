@@ -4,3 +4,4 @@ pub mod Steps
 pub mod Quiet
 pub mod Scans
 pub mod Ways
+pub mod Passes

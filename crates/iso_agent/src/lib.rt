@@ -2,6 +2,7 @@
 #![tactic(auto)]
 
 mod agent;
+mod bells;
 mod due;
 mod ends;
 mod laws;
@@ -9,10 +10,13 @@ mod locks;
 mod looks;
 mod opening;
 mod quiet;
+mod step;
 mod stepped;
 mod telling;
+mod turn;
 mod ways;
 mod writes;
 
 pub use agent::{Agent, Kept, Turned};
+pub use bells::Bells;
 pub use laws::agents_rest;

@@ -1,0 +1,65 @@
+//! Bells: a place for each connection, then one for the dispatcher.
+ghost use Rattle.std.specs.Prelude.{◌≡◌, ◌+◌, ◌<◌, IfOk, vec_len};
+
+use iso_types::Memory;
+use std::alloc::Global;
+use std::sync::{Condvar, Mutex, Wait};
+
+/// Whether it was rung since the last rest here.
+#[derive(Drop)]
+struct Bell {
+    rung: Mutex<bool>,
+    changed: Condvar,
+}
+
+/// A bell at each place.
+#[derive(Drop)]
+pub struct Bells {
+    places: Vec<Bell>,
+}
+
+impl Bell {
+    // Where it was rung before, its sleeper has been woken.
+    fn ring<R: Wait>(&self, rt: &R) {
+        let mut rung = self.rung.lock(rt);
+        if !*rung {
+            *rung = true;
+            self.changed.notify_one();
+        }
+    }
+}
+
+impl Bells {
+    /// A place for each connection, then one for the dispatcher.
+    pub fn new(alloc: Global, conns: u8) -> Result<Bells, Memory>
+        ensures { IfOk result (λ b. vec_len b.places ≡ conns + 1) }
+    {
+        let count = usize::from(conns) + 1;
+        let mut places = Vec::with_capacity(alloc, count)?;
+        for _ in 0..count {
+            places.push(Bell {
+                rung: Mutex::new(false),
+                changed: Condvar::new(),
+            })?;
+        }
+        Ok(Bells { places })
+    }
+
+    /// Rings at every place. It may wait.
+    pub fn ring<R: Wait>(&self, rt: &R) {
+        for bell in self.places.as_slice() {
+            bell.ring(rt);
+        }
+    }
+
+    /// Waits for a ring at this place; one since the last rest here is enough.
+    pub fn rest<R: Wait>(&self, rt: &R, at: u8)
+        requires { at < vec_len self.now.places }
+    {
+        let bell = &self.places[usize::from(at)];
+        let mut rung = bell
+            .changed
+            .wait_while(rt, bell.rung.lock(rt), |rung| !*rung);
+        *rung = false;
+    }
+}
