@@ -1,20 +1,19 @@
 -- The lock of a blocked write is never granted at once: another connection's lock is in its way.
-use Rattle.std.proofs.Common.{◌≡◌, ◌≤◌, ◌+◌, ◌⊎◌, inl, inr, ℕ, Bool, true, false, not, ◌&&◌, ◌||◌, List, [], ◌∷◌, refl, ap, sym, subst, ◌∙◌, arith, Some, None, Option, option_map, find, count_by, if◌then◌else◌}
+use Rattle.std.proofs.Common.{◌≡◌, ◌≤◌, ◌⊎◌, inl, inr, Bool, true, false, not, ◌&&◌, ◌||◌, List, [], ◌∷◌, refl, ap, sym, subst, ◌∙◌, arith, Some, None, Option, option_map, find, count_by}
 use Rattle.std.specs.List.{list_any}
 use Rattle.std.specs.Option.{option_map_or}
-use Rattle.std.specs.Prelude.{IsTrue}
 use Rattle.std.proofs.lemmas.Bool.{and_parts, or_cases}
 use Rattle.std.proofs.lemmas.Cmp.{nat_eq_equiv}
 use Rattle.iso_history.proofs.facts.Excludes.{apart-not, excludes, has_lock, kept-writes, passing}
 use Rattle.iso_history.proofs.locks.Finds.{count-here, count-past, find-here, find-is, find-past}
 use Rattle.iso_history.proofs.locks.Holds.{of-is}
-use Rattle.iso_history.proofs.locks.Fits.{apart-turned, held-from, modes_together}
+use Rattle.iso_history.proofs.locks.Fits.{apart-turned, modes_together}
 use Rattle.iso_history.proofs.locks.Lists.{any-found}
 use Rattle.iso_history.proofs.locks.Modes.{reader-apart}
 use Rattle.iso_history.proofs.locks.Same.{name_same}
 use Rattle.iso_history.proofs.whole.Writers.{alone-where}
-use Rattle.iso_history.specs.Facts.{AreSingle, HoldsBacked, IsSound, LocksSound, has_write_lock, keeps_mode}
-use Rattle.iso_history.specs.Requests.{asking, is_backed, is_had, is_limited, may_ask, need_of, request, suits, is_there, table_mode}
+use Rattle.iso_history.specs.Facts.{AreSingle, HoldsBacked, IsSound, has_write_lock, keeps_mode}
+use Rattle.iso_history.specs.Requests.{asking, is_backed, is_had, is_limited, may_ask, need_of, request, table_mode}
 use Rattle.iso_history.specs.Requests.Outcome.{Gives}
 use Rattle.iso_history.specs.Versions.{is_changed_beside}
 use Rattle.iso_history.specs.World.{World}
@@ -26,8 +25,8 @@ use Rattle.iso_modes.specs.Modes.{at_least, compatible, covers, goes_with, joine
 use Rattle.iso_modes.specs.Terms.{is_kept}
 use Rattle.iso_modes.specs.declared.Mode.{Mode}
 use Rattle.iso_modes.specs.declared.Mode.TheVariants.{In, Is, Ix, Ns, Nw, S, Six, U, X, Z}
-use Rattle.iso_queue.specs.Locks.{Hold, held, hold_on, holds_at_least, is_covered, is_covered_on, is_hold_of, others_guard, target}
-use Rattle.iso_queue.specs.Queues.{Wait, ahead, opposes, queued, would_wait}
+use Rattle.iso_queue.specs.Locks.{Hold, held, hold_on, is_covered, is_covered_on, is_hold_of, others_guard, target}
+use Rattle.iso_queue.specs.Queues.{opposes, would_wait}
 use Rattle.iso_state.proofs.LockWrites.{by-tests}
 use Rattle.iso_types.specs.Head.{table_of}
 use Rattle.iso_types.specs.Ids.{conn_eq, name_eq}
@@ -189,7 +188,7 @@ guardian-in c n (x ∷ xs) e = go (guards c n x) refl (guardian-in c n xs)
         counts : (b : Bool) → (h : Hold) → 1 ≤ count_by (is_hold_of h.conn n) xs → is_hold_of h.conn n x ≡ b
             → (1 ≤ count_by (is_hold_of h.conn n) (x ∷ xs))
             × (count_by (is_hold_of h.conn n) (x ∷ xs) ≤ 1 → (count_by (is_hold_of h.conn n) xs ≤ 1 → find (is_hold_of h.conn n) xs ≡ Some h)
-                → find (is_hold_of h.conn n) (x ∷ xs) ≡ Some h)
+            → find (is_hold_of h.conn n) (x ∷ xs) ≡ Some h)
         counts true h some k =
             let one = count-here (is_hold_of h.conn n) x xs k in
             (omega (arith, one), λ le found. absurd (omega (arith, one, some, le)))

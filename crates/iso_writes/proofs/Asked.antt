@@ -1,26 +1,24 @@
 -- The locks that a write takes: their names are new, and to add them is to place what its entry places.
-use Rattle.std.proofs.Common.{◌≡◌, ◌≤◌, ◌<◌, ◌+◌, ◌-◌, ◌++◌, append_assoc, ℕ, zero, suc, Bool, true, false, not, ◌&&◌, ◌||◌, List, [], ◌∷◌, map, length, refl, ap, sym, subst, ◌∙◌, arith, Some, None, Option, filter, if◌then◌else◌}
-use Rattle.std.specs.List.{AllByRecursion, cons_option, list_any, range_with_len}
-use Rattle.std.specs.Option.{option_and_then, option_map_or}
-use Rattle.std.proofs.lemmas.Bool.{and_parts}
+use Rattle.std.proofs.Common.{◌≡◌, ◌≤◌, ◌<◌, ◌+◌, ◌-◌, ◌++◌, append_assoc, ℕ, zero, suc, Bool, true, false, not, ◌&&◌, List, [], ◌∷◌, map, refl, ap, sym, subst, ◌∙◌, arith, Some, None, Option, filter, if◌then◌else◌}
+use Rattle.std.specs.List.{cons_option, list_any}
+use Rattle.std.specs.Option.{option_map_or}
 use Rattle.std.proofs.lemmas.Bool.Decides.{nat_tests}
 use Rattle.iso_history.proofs.locks.Finds.{filter-here, filter-past}
 use Rattle.iso_history.proofs.locks.Holds.{held-other}
 use Rattle.iso_history.proofs.locks.Inherits.{inherited-new, is_index_of}
 use Rattle.iso_history.proofs.locks.Same.{the_index}
 use Rattle.iso_history.specs.Facts.{LocksSound}
-use Rattle.iso_history.specs.Holds.{inheriting, is_inherited, request_on}
+use Rattle.iso_history.specs.Holds.{is_inherited, request_on}
 use Rattle.iso_history.specs.Requests.{is_there}
 use Rattle.iso_history.specs.World.{World}
 use Rattle.iso_locklist.specs.Holding.{AreNew, IsNew, all_added}
-use Rattle.iso_locklist.specs.Lists.{asked_for}
 use Rattle.iso_locklist.specs.declared.places.Asking.{Asking}
 use Rattle.iso_modes.specs.declared.Mode.{Mode}
 use Rattle.iso_modes.specs.declared.Mode.TheVariants.{S, X}
 use Rattle.iso_modes.specs.declared.Term.TheVariants.{Kept}
-use Rattle.iso_queue.specs.Locks.{Hold, Request, added, all_placed, held, is_covered, is_covered_on, placed}
+use Rattle.iso_queue.specs.Locks.{Hold, Request, added, all_placed, is_covered, is_covered_on, placed}
 use Rattle.iso_state.proofs.News.{no-holds, no-waits}
-use Rattle.iso_types.specs.Head.{indexes, indexes_of, key_in, table_of}
+use Rattle.iso_types.specs.Head.{key_in, table_of}
 use Rattle.iso_types.specs.Ids.{conn_eq, index_eq, name_eq}
 use Rattle.iso_types.specs.declared.head.Head.{Head}
 use Rattle.iso_types.specs.declared.value.Conn.{Conn}
@@ -31,7 +29,7 @@ use Rattle.iso_types.specs.declared.value.Rid.{Rid}
 use Rattle.iso_types.specs.declared.value.TableId.{TableId}
 use Rattle.iso_types.specs.declared.value.Value.{Value}
 use Rattle.iso_writes.proofs.Keyed.{numbered}
-use Rattle.iso_writes.specs.Changing.{ask_of_key, key_ask, key_asks, own_key, row_ask}
+use Rattle.iso_writes.specs.Changing.{key_ask, key_asks, row_ask}
 
 -- the list of what is asked for, with one more index looked at
 joined : (xs : List Asking) (o : Option Asking) (ys : List Asking) → (xs ++ cons_option o []) ++ ys ≡ xs ++ cons_option o ys
@@ -155,7 +153,7 @@ module _ (head : Head) (w : World) (c : Conn) (t : TableId) (row : List Value) w
       go : (a : Bool) → is_index_of head t (the_index k) ≡ a → (b : Bool) → is_inherited head w c row (the_index k) ≡ b
           → (d : Bool) → is_covered head w.holds c (Key (the_index k) (key_in head (the_index k) row)) S ≡ d
           → ((gs : List Hold) → Covers gs
-              → all_placed head gs c (requests head w c t row (numbered (k + 1) n)) ≡ all_added gs c (key_asks head w c t row n (k + 1)))
+          → all_placed head gs c (requests head w c t row (numbered (k + 1) n)) ≡ all_added gs c (key_asks head w c t row n (k + 1)))
           → all_placed head hs c (requests head w c t row (numbered k (suc n))) ≡ all_added hs c (key_asks head w c t row (suc n) k)
       go false e b f d g ih = skips (off-table (the_index k) (numbered (k + 1) n) e) (none-off (the_index k) e) (ih hs same)
       go true e false f d g ih = skips (not-inherited (the_index k) (numbered (k + 1) n) e f) (none-kept (the_index k) e f) (ih hs same)
@@ -250,9 +248,11 @@ module _ (head : Head) (w : World) (c : Conn) (t : TableId) (row : List Value) w
         go true e false f d g ih = with-ask None (none-kept head w c t row (the_index k) e f) ih
         go true e true f true g ih = with-ask None (none-bare head w c t row (the_index k) e f g) ih
         go true e true f false g ih =
-            with-ask (Some (record { name = Key (the_index k) (key_in head (the_index k) row); mode = S })) (one-asked head w c t row (the_index k) e f g)
-            (new-at (Key (the_index k) (key_in head (the_index k) row)) (inherited-new head w c row (the_index k) f),
-            none-same (Key (the_index k) (key_in head (the_index k) row)) (k + 1) apart m (k + 1) (omega arith), ih)
+            with-ask (Some (record { name = Key (the_index k) (key_in head (the_index k) row); mode = S })) (one-asked head w c t row (the_index k) e f g) (
+              new-at (Key (the_index k) (key_in head (the_index k) row)) (inherited-new head w c row (the_index k) f),
+              none-same (Key (the_index k) (key_in head (the_index k) row)) (k + 1) apart m (k + 1) (omega arith),
+              ih,
+            )
 
     -- the row's name is new, too, where it has no slot yet
     pub asks-new : (r : Rid) → is_there head w (Row t r) ≡ false → (m : ℕ)
@@ -267,6 +267,8 @@ module _ (head : Head) (w : World) (c : Conn) (t : TableId) (row : List Value) w
             → AreNew w.holds w.waits (cons_option (row_ask head w c t r) (key_asks head w c t row m 0))
         go true e = with-ask None (rw e refl) (keys-new m 0)
         go false e =
-            with-ask (Some (record { name = Row t r; mode = X })) (rw e refl)
-            (new-at (Row t r) away,
-            none-same (Row t r) 0 (λ k le. row-apart t r (the_index k) (key_in head (the_index k) row)) m 0 (omega arith), keys-new m 0)
+            with-ask (Some (record { name = Row t r; mode = X })) (rw e refl) (
+              new-at (Row t r) away,
+              none-same (Row t r) 0 (λ k le. row-apart t r (the_index k) (key_in head (the_index k) row)) m 0 (omega arith),
+              keys-new m 0,
+            )

@@ -18,7 +18,7 @@ use Rattle.iso_history.specs.Requests.{is_limited, is_pressed, is_row_mode, may_
 use Rattle.iso_history.specs.Units.{unit_of}
 use Rattle.iso_history.specs.Versions.{is_changed_beside, is_pending_beside, next_rid, slot_list, slots, view}
 use Rattle.iso_history.specs.World.{Version, World}
-use Rattle.iso_history.specs.Writes.{Written, inserts, is_block, is_new_key, is_refusal, judged_guard, judged_index, judged_indexes, judged_key, judged_log, judged_need, judged_rivals, judged_room, judged_unique, key_need, may_write, minus, or_else, rivals, row_need, updates, view_has}
+use Rattle.iso_history.specs.Writes.{Written, inserts, is_block, is_new_key, is_refusal, judged_guard, judged_index, judged_indexes, judged_key, judged_log, judged_need, judged_rivals, judged_unique, key_need, may_write, minus, or_else, rivals, row_need, updates, view_has}
 use Rattle.iso_history.specs.Writes.Written.{AtLimit, Blocks, Done, IsFull, Refuses}
 use Rattle.iso_modes.specs.Modes.{at_least, mode_eq, mode_number}
 use Rattle.iso_modes.specs.declared.Mode.{Mode}

@@ -1,30 +1,22 @@
 -- What a deletion comes to, by the test that its judging makes, and what comes at the lock limit.
-use Rattle.std.proofs.Common.{◌≡◌, ◌≤◌, ◌+◌, ℕ, Bool, true, false, if◌then◌else◌, List, length, refl, ap, sym, ◌∙◌, arith, None, Some, Option}
-use Rattle.std.specs.Prelude.{nat_le}
-use Rattle.iso_history.proofs.whole.Pressed.{no-need, pressed-by}
-use Rattle.iso_history.proofs.whole.PressedWrites.{insert-needs}
+use Rattle.std.proofs.Common.{◌≡◌, Bool, true, false, if◌then◌else◌, refl, ap, None, Some, Option}
+use Rattle.iso_history.proofs.whole.Pressed.{no-need}
 use Rattle.iso_history.specs.Outcomes.{at_limit, blocked_by, escalated_by, limited_by}
 use Rattle.iso_history.specs.Records.{is_past_log}
-use Rattle.iso_history.specs.Requests.{Outcome, escalation, is_limited, is_pressed, request}
+use Rattle.iso_history.specs.Requests.{Outcome, escalation, is_limited, request}
 use Rattle.iso_history.specs.Requests.Outcome.{Gives, Limit}
 use Rattle.iso_history.specs.Shares.{SharesHold}
-use Rattle.iso_history.specs.Versions.{next_rid, slots, view}
 use Rattle.iso_history.specs.World.{World}
-use Rattle.iso_history.specs.Writes.{Written, deletes, inserts, judged_indexes, judged_log, judged_need, judged_room, key_need, minus, or_else, row_need, updates}
-use Rattle.iso_history.specs.Writes.Written.{AtLimit, Done, IsFull, Refuses}
+use Rattle.iso_history.specs.Writes.{deletes, minus, or_else}
+use Rattle.iso_history.specs.Writes.Written.{AtLimit, Done, Refuses}
 use Rattle.iso_history.specs.declared.entry.Got.{Got}
 use Rattle.iso_locks.specs.Answers.{answer_of as lock_answer}
 use Rattle.iso_modes.specs.declared.Mode.{Mode}
-use Rattle.iso_modes.specs.declared.Mode.TheVariants.{X}
-use Rattle.iso_queue.specs.Locks.{is_covered}
 use Rattle.iso_types.specs.declared.head.Head.{Head}
 use Rattle.iso_types.specs.declared.value.Conn.{Conn}
-use Rattle.iso_types.specs.declared.value.IndexId.{IndexId}
 use Rattle.iso_types.specs.declared.value.Name.{Name}
-use Rattle.iso_types.specs.declared.value.Name.TheVariants.{Row, Table}
-use Rattle.iso_types.specs.declared.value.Rid.{Rid}
+use Rattle.iso_types.specs.declared.value.Name.TheVariants.{Table}
 use Rattle.iso_types.specs.declared.value.TableId.{TableId}
-use Rattle.iso_types.specs.declared.value.Value.{Value}
 use Rattle.iso_writes.specs.Changing.{blocked_by_name}
 use Rattle.iso_writes.specs.Answers.{answer_of, comes_at_limit, limited, past_or_done}
 

@@ -1,7 +1,6 @@
 -- The pairs of all indexes once the row's keys are added, index by index, are those that its entry makes of the world.
-use Rattle.std.proofs.Common.{◌≡◌, ◌≤◌, ◌<◌, ◌+◌, ◌-◌, ℕ, zero, suc, Bool, true, false, ◌||◌, List, [], ◌∷◌, ◌++◌, map, length, refl, ap, sym, ◌∙◌, arith, append_assoc, Some, None, Option, filter, get_or, set, if◌then◌else◌}
+use Rattle.std.proofs.Common.{◌≡◌, ◌≤◌, ◌<◌, ◌+◌, ℕ, zero, suc, Bool, true, false, ◌||◌, List, [], ◌∷◌, ◌++◌, map, length, refl, ap, sym, ◌∙◌, arith, append_assoc, Some, None, Option, filter}
 use Rattle.std.specs.List.{list_any, range_with_len}
-use Rattle.std.specs.Option.{option_map_or}
 use Rattle.std.specs.Prelude.{slice_index_or, slice_set}
 use Rattle.std.proofs.lemmas.Bool.{eqb-false}
 use Rattle.iso_history.proofs.locks.Finds.{filter-here, filter-past}
@@ -9,8 +8,8 @@ use Rattle.iso_history.proofs.locks.Inherits.{is_index_of}
 use Rattle.iso_history.proofs.locks.Same.{index_is, the_index}
 use Rattle.iso_history.specs.Entries.{entries_of, gained, with_pair}
 use Rattle.iso_history.specs.World.{World}
-use Rattle.iso_types.specs.Head.{indexes, indexes_of, key_in, table_of_index}
-use Rattle.iso_types.specs.Ids.{index_eq, table_eq}
+use Rattle.iso_types.specs.Head.{indexes, indexes_of, key_in}
+use Rattle.iso_types.specs.Ids.{index_eq}
 use Rattle.iso_types.specs.declared.head.Head.{Head}
 use Rattle.iso_types.specs.declared.value.IndexId.{IndexId}
 use Rattle.iso_types.specs.declared.value.Rid.{Rid}

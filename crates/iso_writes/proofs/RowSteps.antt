@@ -1,5 +1,5 @@
 -- The parts after a row was written, and after it was not for want of memory.
-use Rattle.std.proofs.Common.{◌≡◌, ◌≤◌, ◌<◌, ◌+◌, ◌-◌, ◌∷◌, [], ℕ, Bool, true, false, List, length, refl, ap, sym, ◌∙◌, arith, subst, None, Some, map}
+use Rattle.std.proofs.Common.{◌≡◌, ◌≤◌, ◌<◌, ◌+◌, ◌-◌, ℕ, Bool, true, false, List, length, refl, ap, sym, ◌∙◌, arith, subst, None, Some, map}
 use Rattle.std.specs.List.{cons_option}
 use Rattle.std.specs.Prelude.{is_none, is_some}
 use Rattle.std.proofs.Math.ListN.{length-set}
@@ -7,18 +7,16 @@ use Rattle.std.proofs.lemmas.List.{length-map}
 use Rattle.std.proofs.lemmas.Bool.Decides.{nat_tests}
 use Rattle.iso_chain.proofs.Kept.{may-insert, may-update}
 use Rattle.iso_chain.proofs.Write.{insert-chained, update-chained}
-use Rattle.iso_chain.specs.Stands.{Chained}
 use Rattle.iso_chain.specs.Writes.{inserted, written}
-use Rattle.iso_history.specs.After.{after, world}
+use Rattle.iso_history.specs.After.{world}
 use Rattle.iso_history.specs.Entries.{gained}
-use Rattle.iso_history.specs.Legal.{ByAgent, Runs}
+use Rattle.iso_history.specs.Legal.{ByAgent}
 use Rattle.iso_history.specs.Makers.{by_agent}
 use Rattle.iso_history.specs.Phases.{phase, phase_of}
 use Rattle.iso_history.specs.Requests.{is_there}
 use Rattle.iso_history.specs.Versions.{next_rid}
 use Rattle.iso_history.specs.World.{World}
 use Rattle.iso_history.specs.declared.entry.Act.TheVariants.{Insert, Update}
-use Rattle.iso_history.specs.declared.entry.Entry.{Entry}
 use Rattle.iso_key.specs.Pages.{entries}
 use Rattle.iso_locklist.specs.Holding.{AreNew, LocksAre, all_added}
 use Rattle.iso_locklist.specs.Places.{IsSameLimits, Ledger}
@@ -26,7 +24,7 @@ use Rattle.iso_locklist.specs.declared.places.Asking.{Asking}
 use Rattle.iso_queue.specs.Locks.{Hold, settled, without_briefs}
 use Rattle.iso_queue.specs.Queues.{Wait, is_waiting}
 use Rattle.iso_state.proofs.FactsAlong.{kept-of, log_sound-of, sound-of, work-there}
-use Rattle.iso_state.specs.Changes.{entered, reentered, relocked}
+use Rattle.iso_state.specs.Changes.{entered, relocked}
 use Rattle.iso_state.specs.Stands.{Content, HasPlace, Stands, StandsFor, content_of, world_of}
 use Rattle.iso_state.specs.Steps.{IsReady, KeepsRoom, Spends}
 use Rattle.iso_state.specs.declared.parts.Parts.{Parts}

@@ -8,12 +8,11 @@ use Rattle.iso_history.specs.World.{World}
 use Rattle.iso_history.specs.declared.entry.Act.TheVariants.{Insert, Update}
 use Rattle.iso_locklist.proofs.SettledLists.{placed_then_settled}
 use Rattle.iso_locklist.specs.Holding.{LocksAre, all_added}
-use Rattle.iso_locklist.specs.Lists.{asked_for}
 use Rattle.iso_locklist.specs.Places.{Ledger}
 use Rattle.iso_locklist.specs.declared.places.Asking.{Asking}
 use Rattle.iso_modes.specs.declared.Mode.TheVariants.{S, X}
 use Rattle.iso_modes.specs.declared.Term.TheVariants.{Kept}
-use Rattle.iso_queue.specs.Locks.{Hold, Request, added, all_placed, is_covered, placed, settled, without_briefs}
+use Rattle.iso_queue.specs.Locks.{Hold, added, all_placed, is_covered, placed, settled, without_briefs}
 use Rattle.iso_types.specs.declared.head.Head.{Head}
 use Rattle.iso_types.specs.declared.value.Conn.{Conn}
 use Rattle.iso_types.specs.declared.value.Name.{Name}

@@ -1,10 +1,9 @@
 -- Where a step finds parts that stand for a history, it may write a record, and the row may come into its slot.
-use Rattle.std.proofs.Common.{◌≡◌, ◌≤◌, ◌<◌, ◌∙◌, ℕ, Bool, true, false, length, List, refl, ap, sym, subst, arith}
-use Rattle.std.specs.Prelude.{if◌then◌else◌, nat_le, slice_index_or}
+use Rattle.std.proofs.Common.{◌≡◌, ◌<◌, ℕ, Bool, true, false, length, List, refl, subst, arith}
+use Rattle.std.specs.Prelude.{if◌then◌else◌, nat_le}
 use Rattle.std.proofs.lemmas.Bool.Decides.{nat_tests}
 use Rattle.std.proofs.lemmas.List.{length-map}
 use Rattle.iso_chain.proofs.Asks.{has-unit}
-use Rattle.iso_chain.specs.Slots.{slots_of}
 use Rattle.iso_history.proofs.log.Logged.{fits-there}
 use Rattle.iso_history.specs.After.{world}
 use Rattle.iso_history.specs.Facts.{TablesThere}
@@ -15,7 +14,7 @@ use Rattle.iso_history.specs.World.{World}
 use Rattle.iso_history.specs.Writes.{Written, inserts, judged_room, may_change, or_else}
 use Rattle.iso_history.specs.Writes.Written.{AtLimit, Blocks, Done, IsFull, Refuses}
 use Rattle.iso_state.proofs.FactsAlong.{debt-small, sound-of, unit-of, work-there}
-use Rattle.iso_state.specs.Stands.{Content, Stands, StandsFor, content_of, world_of}
+use Rattle.iso_state.specs.Stands.{Content, Stands, StandsFor, content_of}
 use Rattle.iso_state.specs.declared.parts.Parts.{Parts}
 use Rattle.iso_types.specs.Head.{row_fits}
 use Rattle.iso_types.specs.declared.desk.Phase.TheVariants.{Running}

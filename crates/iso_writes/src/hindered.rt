@@ -86,7 +86,12 @@ fn blocked(answer: Answer, name: &Name) -> Written
 }
 
 /// Makes the entry of a write that another connection's lock on the name blocks: the lock is asked for in this mode.
-pub fn wait_for(parts: &mut Parts, conn: Conn, name: &Name, mode: Mode) -> Result<Written, StepFault>
+pub fn wait_for(
+    parts: &mut Parts,
+    conn: Conn,
+    name: &Name,
+    mode: Mode,
+) -> Result<Written, StepFault>
     requires stands { StandsFor parts.old }
     requires open { (world_of parts.old).pace.finished ≡ false }
     requires conn { conn.0 < length parts.old.head.conns }

@@ -1,5 +1,5 @@
 use Rattle.std.proofs.Common.{◌∙◌, sym}
-use Rattle.iso_writes.proofs.Pairs.{pair-added, pair-kept, pair-there, pairs-at}
+use Rattle.iso_writes.proofs.Pairs.{pair-added, pair-kept, pair-there}
 use Rattle.iso_writes.proofs.keying.add_pair.Goals as goal
 
 pub returns-in-Ok-clause-wrote : goal.returns-in-Ok-clause-wrote

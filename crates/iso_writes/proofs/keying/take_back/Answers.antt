@@ -1,5 +1,5 @@
-use Rattle.std.proofs.Common.{◌≡◌, ◌∙◌, Bool, ap, sym, subst, true}
-use Rattle.iso_state.specs.Stands.{Content, content_of}
+use Rattle.std.proofs.Common.{◌∙◌, Bool, ap, sym}
+use Rattle.iso_state.specs.Stands.{content_of}
 use Rattle.iso_writes.proofs.Pairs.{pair-taken}
 use Rattle.iso_writes.specs.Changing.{without_added}
 use Rattle.iso_writes.proofs.keying.take_back.Goals as goal

@@ -3,7 +3,7 @@ use Rattle.iso_history.specs.Makers.{by_agent}
 use Rattle.iso_history.specs.Outcomes.{written_by}
 use Rattle.iso_history.specs.Stops.{is_full}
 use Rattle.iso_history.specs.Versions.{next_rid}
-use Rattle.iso_history.specs.Writes.{Written, inserts}
+use Rattle.iso_history.specs.Writes.{Written}
 use Rattle.iso_history.specs.declared.entry.Act.TheVariants.{Insert}
 use Rattle.iso_state.proofs.ByKind.{fault-was}
 use Rattle.iso_state.specs.Stands.{world_of}

@@ -3,7 +3,7 @@ use Rattle.std.proofs.lemmas.Bool.{and_parts}
 use Rattle.iso_history.specs.Makers.{by_agent}
 use Rattle.iso_history.specs.Outcomes.{written_by}
 use Rattle.iso_history.specs.Stops.{is_full}
-use Rattle.iso_history.specs.Writes.{Written, updates}
+use Rattle.iso_history.specs.Writes.{Written}
 use Rattle.iso_history.specs.declared.entry.Act.TheVariants.{Update}
 use Rattle.iso_state.proofs.ByKind.{fault-was}
 use Rattle.iso_state.specs.Stands.{world_of}

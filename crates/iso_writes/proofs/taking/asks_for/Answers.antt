@@ -1,4 +1,3 @@
-use Rattle.std.proofs.Common.{◌∙◌}
 use Rattle.iso_state.specs.Stands.{world_of}
 use Rattle.iso_writes.proofs.Asked.{one-more}
 use Rattle.iso_writes.proofs.taking.asks_for.Goals as goal

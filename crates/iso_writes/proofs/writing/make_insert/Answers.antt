@@ -1,4 +1,4 @@
-use Rattle.std.proofs.Common.{◌≡◌, ◌<◌, ◌+◌, ◌∙◌, ℕ, List, Option, ap, length, refl, sym, subst, true}
+use Rattle.std.proofs.Common.{◌≡◌, ◌<◌, ◌+◌, ◌∙◌, List, Option, ap, length, refl, sym, subst, true}
 use Rattle.std.specs.List.{cons_option}
 use Rattle.iso_history.specs.After.{world}
 use Rattle.iso_history.specs.Legal.{ByAgent}
@@ -17,7 +17,7 @@ use Rattle.iso_types.specs.declared.value.Value.{Value}
 use Rattle.iso_writes.proofs.ChangeSteps.{change-full}
 use Rattle.iso_writes.proofs.RowSteps.{AreTaken, idle-of, indexes-there, insert-new, insert-place, relocked-place}
 use Rattle.iso_writes.proofs.Writable.{may-record, table-here}
-use Rattle.iso_writes.specs.Changing.{key_asks, row_ask}
+use Rattle.iso_writes.specs.Changing.{key_asks}
 use Rattle.iso_writes.proofs.writing.make_insert.Goals as goal
 
 pub returns-in_err-make_room-clause-full : goal.returns-in_err-make_room-clause-full
