@@ -3,3 +3,4 @@ pub mod LookSteps
 pub mod Beside
 pub mod Current
 pub mod NextSteps
+pub mod Settling

@@ -10,7 +10,7 @@ mod outcomes;
 mod slots;
 mod stepping;
 
-pub use laws::pins_are_current;
+pub use laws::{pins_are_current, pins_are_settled};
 pub use looking::look;
 pub use outcomes::Looked;
 pub use stepping::{Stepped, next_entry};

@@ -6,3 +6,6 @@ mod units;
 
 pub use marks::{Marks, Savepoint};
 pub use units::{Units, Work};
+
+#[cfg(test)]
+mod tests;
