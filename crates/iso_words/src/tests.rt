@@ -1,0 +1,47 @@
+use super::*;
+use std::test::Fail;
+
+// The words and the job that they name.
+const TABLE: [(&[&str], Option<Job>); 14] = [
+    (&["serial"], Some(Job::Serial { trace: false })),
+    (&["serial", "--trace"], Some(Job::Serial { trace: true })),
+    (&["--trace", "serial"], Some(Job::Serial { trace: true })),
+    (&["check"], Some(Job::Check)),
+    (
+        &["generate", "--seed", "7", "--count=10000"],
+        Some(Job::Generate {
+            seed: 7,
+            count: 10_000,
+        }),
+    ),
+    (
+        &["--count", "1", "--seed=18446744073709551615", "mix"],
+        Some(Job::Mix {
+            seed: u64::MAX,
+            count: 1,
+        }),
+    ),
+    (&[], None),
+    (&["serial", "--seed"], None),
+    (&["run", "--seed", "1"], None),
+    (&["check", "--trace"], None),
+    (&["mix", "--seed", "7"], None),
+    (&["mix", "--seed", "7", "--count", "10001"], None),
+    (
+        &["mix", "--seed", "18446744073709551616", "--count", "1"],
+        None,
+    ),
+    (&["serial", "--trace", "--trace"], None),
+];
+
+#[test]
+fn the_table(rt: HostRuntime) -> Result<(), Fail> {
+    for (texts, job) in TABLE {
+        let mut words = Vec::new(rt.alloc());
+        for text in texts {
+            words.push(String::from_str(rt.alloc(), *text)?)?;
+        }
+        assert!(rt; read_words(words.as_slice()) == job, "{texts:?}");
+    }
+    Ok(())
+}
