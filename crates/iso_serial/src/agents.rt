@@ -40,7 +40,6 @@ fn try_agent(
     at: usize,
 ) -> bool
     requires stands { StandsFor parts.old }
-    requires plain { length parts.old.head.indexes ≡ 0 } // keys come next
     requires head { parts.old.head ≡ script.now.head }
     requires sound { IsSound script.now }
     requires rested { AreRested script.now parts.old.history.items agents.old.items }
@@ -67,7 +66,6 @@ pub fn ask_agents(
     to: usize,
 ) -> Option<usize>
     requires stands { StandsFor parts.old }
-    requires plain { length parts.old.head.indexes ≡ 0 } // keys come next
     requires head { parts.old.head ≡ script.now.head }
     requires sound { IsSound script.now }
     requires rested { AreRested script.now parts.old.history.items agents.old.items }

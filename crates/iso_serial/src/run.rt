@@ -19,7 +19,6 @@ use std::alloc::Global;
 /// Turns from the empty history to Finish.
 fn run_turns(alloc: Global, script: &Script, parts: &mut Parts, agents: &mut Vec<Agent>)
     requires stands { StandsFor parts.old }
-    requires plain { length parts.old.head.indexes ≡ 0 } // keys come next
     requires head { parts.old.head ≡ script.now.head }
     requires sound { IsSound script.now }
     requires none { parts.old.history.items ≡ [] }
@@ -44,7 +43,6 @@ fn run_turns(alloc: Global, script: &Script, parts: &mut Parts, agents: &mut Vec
 /// once at most. (This project's own.)
 pub fn run_serial(alloc: Global, script: &Script) -> Result<History, Memory>
     requires sound { IsSound script.now }
-    requires plain { script.now.head.indexes ≡ [] } // keys come next
     ensures legal { IfOk result (λ h. IsLegal script.now h.items) }
     ensures finished { IfOk result (λ h. IsFinished h.items) }
     ensures scheduled { IfOk result (λ h. Scheduled script.now.head script.now.lines None h.items) }

@@ -18,7 +18,6 @@ use std::alloc::Global;
 /// A turn of the dispatcher: whether it made an entry.
 fn try_director(script: &Script, parts: &mut Parts, director: &mut Director) -> bool
     requires stands { StandsFor parts.old }
-    requires plain { length parts.old.head.indexes ≡ 0 } // keys come next
     requires head { parts.old.head ≡ script.now.head }
     requires sound { IsSound script.now }
     requires taken { HasTaken script.now parts.old.history.items director.old }
@@ -33,7 +32,6 @@ fn try_director(script: &Script, parts: &mut Parts, director: &mut Director) -> 
 /// Entry 0, the dispatcher's.
 pub fn take_first_turn(script: &Script, parts: &mut Parts, director: &mut Director)
     requires stands { StandsFor parts.old }
-    requires plain { length parts.old.head.indexes ≡ 0 } // keys come next
     requires head { parts.old.head ≡ script.now.head }
     requires sound { IsSound script.now }
     requires taken { HasTaken script.now parts.old.history.items director.old }
@@ -59,7 +57,6 @@ pub fn take_turn(
     last: usize,
 ) -> usize
     requires stands { StandsFor parts.old }
-    requires plain { length parts.old.head.indexes ≡ 0 } // keys come next
     requires head { parts.old.head ≡ script.now.head }
     requires sound { IsSound script.now }
     requires taken { HasTaken script.now parts.old.history.items director.old }
