@@ -1,7 +1,7 @@
 -- Of walked names those go that the connection neither holds nor awaits, and its desk is as it should be.
-use Rattle.std.proofs.Common.{◌≡◌, ◌<◌, ◌≤◌, ◌+◌, ℕ, Bool, true, false, not, ◌&&◌, ◌||◌, List, Option, None, Some, is_some, length, slice_get, refl, sym, ap, subst, ◌∙◌, true≢false, inl, inr, arith}
+use Rattle.std.proofs.Common.{◌≡◌, ◌<◌, ◌≤◌, ◌+◌, ℕ, Bool, true, false, ◌&&◌, List, Option, None, Some, is_some, length, slice_get, refl, sym, ap, subst, ◌∙◌, true≢false, inl, inr, arith}
 use Rattle.std.proofs.lemmas.Bool.Decides.{eqb_tells}
-use Rattle.iso_queue.specs.Lines.{Line, is_touched, is_waiter}
+use Rattle.iso_queue.specs.Lines.{Line, is_touched}
 use Rattle.iso_types.specs.Ids.{name_eq}
 use Rattle.iso_types.specs.declared.value.Conn.{Conn}
 use Rattle.iso_types.specs.declared.value.Name.{Name}
@@ -12,10 +12,8 @@ use Rattle.iso_lines.proofs.Same.{name_is, turned}
 use Rattle.iso_lines.proofs.Tests.{same_names}
 use Rattle.iso_lines.proofs.Touched.{same_some}
 use Rattle.iso_lines.proofs.Worked.{not_found, worked_still}
-use Rattle.iso_lines.specs.Locks.{IsSeated, is_at_hand}
 use Rattle.iso_lines.specs.Named.{Named, key_of, line_of, same}
 use Rattle.iso_lines.specs.Tasks.{change_on, concerns, done_by, worked}
-use Rattle.iso_lines.specs.declared.desk.Desk.{Desk}
 use Rattle.iso_lines.specs.declared.lines.Change.{Change}
 use Rattle.iso_lines.specs.declared.tasks.Task.{Task}
 

@@ -2,7 +2,7 @@
 use Rattle.iso_lines.specs.Locks.{AreIdle, IsLocks, counts_below, names_at}
 use Rattle.iso_lines.specs.Locks.{is_at_hand}
 use Rattle.iso_lines.specs.declared.desk.Desk.{Desk}
-use Rattle.std.proofs.Common.{if◌then◌else◌, length, ◌++◌, ◌≡◌, ◌<◌, ◌+◌, ℕ, zero, suc, Bool, true, false, not, ◌||◌, List, [], ◌∷◌, Some, is_some, filter, slice_get, slice_index_or, refl, sym, ap, subst, ◌∙◌, true≢false, arith}
+use Rattle.std.proofs.Common.{if◌then◌else◌, length, ◌++◌, ◌≡◌, ◌<◌, ℕ, zero, suc, Bool, true, false, not, ◌||◌, List, [], ◌∷◌, Some, is_some, filter, slice_get, slice_index_or, refl, sym, ap, subst, ◌∙◌, true≢false, arith}
 use Rattle.std.specs.List.{IsDistinct, list_any}
 use Rattle.std.specs.Map.{keys_of, lookup}
 use Rattle.iso_queue.specs.Lines.{Line, is_touched, is_waiter}

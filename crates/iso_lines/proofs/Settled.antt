@@ -1,22 +1,15 @@
 -- The holds at hand are settled name by name.
-use Rattle.std.proofs.Common.{◌≡◌, ◌<◌, ◌+◌, ◌⊎◌, ℕ, Bool, true, false, not, ◌&&◌, ◌||◌, List, [], ◌∷◌, Some, is_some, filter, map, slice_get, refl, sym, ap, subst, ◌∙◌, true≢false, inl, inr, arith, if◌then◌else◌}
-use Rattle.std.proofs.lemmas.Bool.Decides.{eqb_tells}
+use Rattle.std.proofs.Common.{◌≡◌, Bool, true, false, not, ◌&&◌, ◌||◌, List, [], ◌∷◌, filter, map, refl, sym, ap, ◌∙◌, true≢false, if◌then◌else◌}
 use Rattle.std.specs.List.{list_any}
 use Rattle.iso_modes.specs.Terms.{is_brief, is_fresh, is_kept}
 use Rattle.iso_modes.specs.declared.Term.{Term}
 use Rattle.iso_queue.specs.Lines.{Line, settled, settled_hold}
 use Rattle.iso_queue.specs.declared.types.Hold.{Hold}
-use Rattle.iso_types.specs.Ids.{conn_eq, name_eq}
+use Rattle.iso_types.specs.Ids.{conn_eq}
 use Rattle.iso_types.specs.declared.value.Conn.{Conn}
-use Rattle.iso_types.specs.declared.value.Name.{Name}
-use Rattle.iso_lines.proofs.Parts.{gone, kept}
-use Rattle.iso_lines.proofs.Released.{place_found}
-use Rattle.iso_lines.proofs.Seated.{line_like}
-use Rattle.iso_lines.proofs.Tests.{same_names}
-use Rattle.iso_lines.proofs.Touched.{same_some}
+use Rattle.iso_lines.proofs.Parts.{kept}
 use Rattle.iso_lines.specs.Locks.{has_loose}
 use Rattle.iso_lines.specs.Locks.{is_loose_hold}
-use Rattle.iso_lines.specs.Named.{Named, key_of, line_of, same}
 
 -- a hold that stays when its connection settles
 abbrev pub stays : Conn → Hold → Bool

@@ -1,11 +1,10 @@
 -- How many names all connections have together, when those of one connection change.
-use Rattle.std.proofs.Common.{◌≡◌, ◌≢◌, ◌<◌, ◌≤◌, ◌+◌, ℕ, zero, suc, Bool, true, false, not, ◌&&◌, ◌||◌, List, [], ◌∷◌, is_some, inl, inr, length, map, slice_get, slice_index_or, slice_set, Some, refl, sym, ap, subst, ◌∙◌, true≢false, if◌then◌else◌, arith}
+use Rattle.std.proofs.Common.{◌≡◌, ◌≢◌, ◌<◌, ◌≤◌, ◌+◌, ℕ, zero, suc, Bool, true, false, ◌||◌, List, [], ◌∷◌, is_some, inl, inr, length, map, slice_get, slice_index_or, slice_set, Some, refl, sym, ap, ◌∙◌, true≢false, if◌then◌else◌, arith}
 use Rattle.std.proofs.lemmas.Bool.Decides.{eqb_tells}
 use Rattle.std.proofs.lemmas.Map.Made.{is_some-lookup, length-from_same_keys}
 use Rattle.std.specs.List.{AllByRecursion, IsDistinct, list_any}
 use Rattle.std.specs.Map.{keys_of}
 use Rattle.iso_types.specs.contracts.value.NameEq.TheImpl.Laws.{laws-law}
-use Rattle.iso_types.specs.Ids.{name_eq}
 use Rattle.iso_types.specs.declared.value.Name.{Name}
 use Rattle.iso_lines.proofs.Counted.{length_keys}
 use Rattle.iso_lines.proofs.Tests.{same_names}

@@ -1,5 +1,5 @@
 -- How many names pass a test, told by any list of those that do.
-use Rattle.std.proofs.Common.{◌≡◌, ◌∙◌, ℕ, Bool, true, false, ◌&&◌, List, [], ◌∷◌, is_some, length, filter, refl, sym, ap, true≢false}
+use Rattle.std.proofs.Common.{◌≡◌, ◌∙◌, ℕ, Bool, true, false, ◌&&◌, List, [], ◌∷◌, is_some, length, filter, refl, sym, ap}
 use Rattle.std.proofs.lemmas.List.Sums.{length-filter}
 use Rattle.std.proofs.lemmas.Map.Made.{IsDistinct-keys_filter, is_some-lookup}
 use Rattle.std.proofs.lemmas.Map.Views.{any-filter_same}

@@ -1,10 +1,10 @@
 -- A task goes name by name.
-use Rattle.std.proofs.Common.{◌≡◌, ◌<◌, ◌+◌, ◌⊎◌, ℕ, zero, suc, Bool, true, false, not, ◌&&◌, ◌||◌, List, [], ◌∷◌, Option, None, Some, is_some, filter, slice_get, refl, sym, ap, subst, ◌∙◌, true≢false, inl, inr, arith, if◌then◌else◌}
+use Rattle.std.proofs.Common.{◌≡◌, ◌<◌, ◌+◌, ℕ, zero, suc, Bool, true, false, ◌&&◌, List, [], ◌∷◌, Option, None, Some, is_some, filter, slice_get, refl, sym, ap, subst, ◌∙◌, true≢false, inl, inr, arith, if◌then◌else◌}
 use Rattle.std.proofs.lemmas.Bool.Decides.{eqb_tells}
 use Rattle.std.specs.List.{AllByRecursion, IsDistinct, list_any}
 use Rattle.std.specs.Map.{keys_of, lookup}
 use Rattle.std.specs.Option.{option_map_or}
-use Rattle.iso_queue.specs.Lines.{Line, claimed, has_edge, is_touched, is_waiter, settled, taken_in, unqueued, waiter_of}
+use Rattle.iso_queue.specs.Lines.{Line, claimed, has_edge, is_touched, is_waiter, taken_in, waiter_of}
 use Rattle.iso_lines.specs.Locks.{is_at_hand, is_loose_wait}
 use Rattle.iso_queue.specs.declared.types.Waiter.{Waiter}
 use Rattle.iso_types.specs.Ids.{conn_eq, name_eq}
@@ -19,7 +19,7 @@ use Rattle.iso_lines.proofs.Settled.{settled_calm}
 use Rattle.iso_lines.proofs.Tests.{same_names}
 use Rattle.iso_lines.proofs.Touched.{no_some, same_some}
 use Rattle.iso_lines.specs.Locks.{has_loose}
-use Rattle.iso_lines.specs.Named.{Named, cancelled, changed, key_of, line_of, same}
+use Rattle.iso_lines.specs.Named.{Named, cancelled, key_of, line_of, same}
 use Rattle.iso_lines.specs.Tasks.{change_on, concerns, done_by, is_placed, is_spared, is_within, worked}
 use Rattle.iso_lines.specs.declared.lines.Change.{Change}
 use Rattle.iso_lines.specs.declared.tasks.Task.{Task}

@@ -1,18 +1,16 @@
 -- The one wait of a connection is that of the name in whose line it waits.
-use Rattle.std.proofs.Common.{ℕ, ◌≡◌, ◌≤◌, Bool, true, false, not, ◌&&◌, ◌||◌, List, [], ◌∷◌, map, filter, refl, ap, sym, subst, ◌∙◌, true≢false}
-use Rattle.std.specs.List.{list_any}
+use Rattle.std.proofs.Common.{◌≡◌, Bool, true, false, not, ◌&&◌, ◌||◌, List, [], ◌∷◌, filter, refl, ap, sym, subst, ◌∙◌, true≢false}
 use Rattle.std.specs.Option.{option_map, option_map_or, option_or}
 use Rattle.std.specs.Prelude.{find, if◌then◌else◌, is_some, Option, None, Some}
 use Rattle.iso_locklist.specs.Holding.{AreLines, WaitsOnce}
 use Rattle.iso_locklist.specs.Lists.{named_wait}
-use Rattle.iso_locklist.specs.Places.{awaited, edges_in, is_grantable_in, nobody}
+use Rattle.iso_locklist.specs.Places.{awaited, edges_in}
 use Rattle.iso_locklist.specs.Places.{Place}
 use Rattle.iso_locklist.proofs.Alike.{find_parts}
 use Rattle.iso_locklist.proofs.Bridge.{all_names, empty_line, is_one, once, once_one, placed, places_of}
 use Rattle.iso_locklist.proofs.Lists.{name_is, seek_map}
 use Rattle.iso_locklist.proofs.Names.{name_same}
 use Rattle.iso_locklist.proofs.Settles.{gone, kept}
-use Rattle.iso_queue.specs.Lines as lines
 use Rattle.iso_queue.specs.Lines.{Line, edges_of, is_waiter, waiter_of}
 use Rattle.iso_queue.specs.Locks.{Hold}
 use Rattle.iso_queue.specs.Queues.{Wait, queue, wait_of}
@@ -74,14 +72,6 @@ find_at : (t : Line → Bool) (line : Name → Line) (n : Name) (ms : List Name)
 find_at t line n [] others = refl
 find_at t line n (m ∷ ms) others = find_by t line n m ms (name_eq m n) refl others (find_at t line n ms others)
 
-any_found : {X : Type 0} (t : X → Bool) (xs : List X) → list_any t xs ≡ is_some (find t xs)
-any_found t [] = refl
-any_found t (x ∷ xs) = by (t x) refl (any_found t xs)
-  where
-    by : (b : Bool) → t x ≡ b → list_any t xs ≡ is_some (find t xs) → list_any t (x ∷ xs) ≡ is_some (find t (x ∷ xs))
-    by true e ih = rw e refl
-    by false e ih = rw e ih
-
 module _ (hs : List Hold) (xs : List Wait) (line : Name → Line) (are : AreLines hs xs line) (c : Conn) (single : WaitsOnce xs c) where
   wait_at : (n : Name) → find (of_conn c) (queue xs n) ≡ option_map (named_wait n) (waiter_of (line n).waiters c)
   wait_at n = ap (find (of_conn c)) (sym (are.waits n)) ∙ seek_map (of_conn c) (named_wait n) (line n).waiters
@@ -139,21 +129,3 @@ module _ (hs : List Hold) (xs : List Wait) (line : Name → Line) (are : AreLine
 
     pub edges_there : edges_in (places_of hs xs line) c ≡ edges_of (line n) c
     edges_there = ap (λ (o : Option Place). option_map_or (λ (p : Place). edges_of p.queue c) o 0) awaited_there
-
-    idle_stuck : (m : Name) → name_eq m n ≡ false → lines.is_grantable (line m) c ≡ false
-    idle_stuck m apart = by (waiter_of (line m).waiters c) (waits_not n w e m apart)
-      where
-        by : (o : Option Waiter) → is_some o ≡ false → option_map_or (λ x. not (lines.has_edge (line m).holders (line m).waiters x)) o false ≡ false
-        by None f = refl
-        by (Some v) f = absurd (true≢false f)
-
-    pub grantable_there : is_grantable_in (places_of hs xs line) c ≡ lines.is_grantable (line n) c
-    grantable_there =
-        any_found (λ (p : Place). lines.is_grantable p.queue c) (places_of hs xs line)
-        ∙ ap (λ (o : Option Place). is_some o) (find_at (λ (q : Line). lines.is_grantable q c) line n (once (all_names hs xs)) idle_stuck
-        ∙ ap (λ (b : Bool). found_if line n (b && lines.is_grantable (line n) c)) named)
-        ∙ by (lines.is_grantable (line n) c)
-      where
-        by : (b : Bool) → is_some (found_if line n b) ≡ b
-        by true = refl
-        by false = refl

@@ -1,22 +1,20 @@
 -- Where lines stand for holds and waits, places take their names, each once with its line, and stand for them too.
-use Rattle.std.proofs.Common.{ℕ, zero, suc, ◌≡◌, ◌<◌, ◌≤◌, ◌+◌, Bool, true, false, not, ◌&&◌, ◌||◌, List, [], ◌∷◌, ◌++◌, length, map, filter, refl, ap, sym, subst, ◌∙◌, true≢false, arith}
+use Rattle.std.proofs.Common.{ℕ, zero, suc, ◌≡◌, ◌<◌, ◌≤◌, ◌+◌, Bool, true, false, not, ◌&&◌, ◌||◌, List, [], ◌∷◌, ◌++◌, map, filter, refl, ap, sym, subst, ◌∙◌, true≢false, arith}
 use Rattle.std.specs.List.{AllByRecursion, IsDistinct, list_any}
-use Rattle.std.specs.Prelude.{count_by, if◌then◌else◌}
+use Rattle.std.specs.Prelude.{if◌then◌else◌}
 use Rattle.iso_locklist.specs.Holding.{AreLines}
 use Rattle.iso_locklist.specs.Lists.{named_hold, named_wait}
-use Rattle.iso_locklist.specs.Places.{all_taken, are_apart, line_at, names, nobody, one, taken, taken_below}
+use Rattle.iso_locklist.specs.Places.{are_apart, line_at, names, nobody, taken, taken_below}
 use Rattle.iso_locklist.specs.Places.{Place}
 use Rattle.iso_locklist.proofs.Apart.{turned}
 use Rattle.iso_locklist.proofs.Lists.{name_is}
 use Rattle.iso_locklist.proofs.Names.{name_same}
 use Rattle.iso_locklist.proofs.Settles.{gone, kept}
-use Rattle.iso_locklist.proofs.Taken.{count_cons}
 use Rattle.iso_locklist.proofs.Waits.{line_here, line_past}
-use Rattle.iso_queue.specs.Lines.{Line, is_touched}
+use Rattle.iso_queue.specs.Lines.{Line}
 use Rattle.iso_queue.specs.Locks.{Hold}
 use Rattle.iso_queue.specs.Queues.{Wait}
 use Rattle.iso_types.specs.Ids.{name_eq}
-use Rattle.iso_types.specs.declared.value.Conn.{Conn}
 use Rattle.iso_types.specs.declared.value.Name.{Name}
 
 -- the name is one of these
@@ -125,25 +123,7 @@ module _ (hs : List Hold) (xs : List Wait) (line : Name → Line) (are : AreLine
     waits = λ n. ap (λ (q : Line). map (named_wait n) q.waiters) (line_places n) ∙ are.waits n;
   }
 
--- ---- how many names a connection has
-abbrev touching : (Name → Line) → Conn → Name → Bool
-touching line c n = is_touched (line n) c
-
-taken_by : (line : Name → Line) (c : Conn) (n : Name) (ns : List Name) (b : Bool) → is_touched (line n) c ≡ b
-    → taken (placed line ns) c ≡ length (filter (touching line c) ns) → taken (placed line (n ∷ ns)) c ≡ length (filter (touching line c) (n ∷ ns))
-taken_by line c n ns true e ih =
-    let more : taken (placed line (n ∷ ns)) c ≡ one (is_touched (line n) c) + taken (placed line ns) c =
-    count_cons (λ (p : Place). is_touched p.queue c) (record { name = n; queue = line n }) (placed line ns) in
-    omega (arith, more, ap one e, ih) ∙ sym (ap (λ (l : List Name). length l) (kept (touching line c) n ns e))
-taken_by line c n ns false e ih =
-    let more : taken (placed line (n ∷ ns)) c ≡ one (is_touched (line n) c) + taken (placed line ns) c =
-    count_cons (λ (p : Place). is_touched p.queue c) (record { name = n; queue = line n }) (placed line ns) in
-    omega (arith, more, ap one e, ih) ∙ sym (ap (λ (l : List Name). length l) (gone (touching line c) n ns e))
-
-taken_placed : (line : Name → Line) (c : Conn) (ns : List Name) → taken (placed line ns) c ≡ length (filter (touching line c) ns)
-taken_placed line c [] = refl
-taken_placed line c (n ∷ ns) = taken_by line c n ns (is_touched (line n) c) refl (taken_placed line c ns)
-
+-- ---- names that pass a test
 and_parts : (a b : Bool) → (a && b) ≡ true → (a ≡ true) × (b ≡ true)
 and_parts true b e = (refl, e)
 and_parts false b e = absurd (true≢false (sym e))
@@ -199,19 +179,6 @@ left_by p k n ns false false e f ih = ap (list_any (name_eq k)) (gone p n ns f) 
 pub one_left : (p : Name → Bool) (k : Name) (ns : List Name) → list_any (name_eq k) (filter p ns) ≡ (is_one ns k && p k)
 one_left p k [] = refl
 one_left p k (n ∷ ns) = left_by p k n ns (name_eq n k) (p n) refl refl (one_left p k ns)
-
--- what counts the names that the connection touches, whatever list they are given in, counts the places
-module _ (hs : List Hold) (xs : List Wait) (line : Name → Line) (are : AreLines hs xs line) where
-  pub counted_places : (c : Conn) (k : ℕ) → ((ns : List Name) → IsDistinct name_eq ns → ((n : Name) → list_any (name_eq n) ns ≡ is_touched (line n) c) → k ≡ length ns)
-      → k ≡ taken (places_of hs xs line) c
-  counted_places c k told =
-      told (filter (touching line c) (once (all_names hs xs))) (distinct_left (touching line c) (once (all_names hs xs)) (once_apart (all_names hs xs)))
-      (λ n. one_left (touching line c) n (once (all_names hs xs)) ∙ all_there n (is_one (once (all_names hs xs)) n) refl)
-      ∙ sym (taken_placed line c (once (all_names hs xs)))
-    where
-      all_there : (n : Name) (b : Bool) → is_one (once (all_names hs xs)) n ≡ b → (b && touching line c n) ≡ is_touched (line n) c
-      all_there n true e = refl
-      all_there n false e = sym (ap (λ (q : Line). is_touched q c) (empty_line hs xs line are n (sym (once_one n (all_names hs xs)) ∙ e)))
 
 -- the sum of such counts is that of all places
 pub counted_below : (ps : List Place) (f : ℕ → ℕ) (below : ℕ → ℕ) → below 0 ≡ 0 → ((k : ℕ) → below (suc k) ≡ below k + f k) → (m : ℕ) → ((c : ℕ) → c < m → f c ≡ taken ps (record { 0 = c }))

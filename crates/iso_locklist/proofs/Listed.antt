@@ -1,5 +1,5 @@
 -- What a snapshot's loops have listed.
-use Rattle.std.proofs.Common.{zero, suc, ◌<◌, Option, None, length, take, get_or, ◌≡◌, ◌+◌, ℕ, List, [], ◌∷◌, ◌++◌, map, refl, ap, sym, ◌∙◌, append_assoc, arith}
+use Rattle.std.proofs.Common.{zero, suc, ◌<◌, length, take, get_or, ◌≡◌, ◌+◌, ℕ, List, [], ◌∷◌, ◌++◌, map, refl, ap, sym, ◌∙◌, append_assoc, arith}
 use Rattle.std.proofs.lemmas.List.{append-nil}
 use Rattle.std.specs.List.{cons_option, flat_map, range_with_len}
 use Rattle.iso_types.specs.Head.{conns}

@@ -9,7 +9,6 @@ use Rattle.std.specs.declared.cmp.Ordering.TheVariants.{Equal, Greater, Less}
 use Rattle.std.proofs.lemmas.Bool.Decides.{Decides-int_eq, nat_tests}
 use Rattle.std.proofs.lemmas.Cmp.{int_cmp_total, int_ranked, nat_cmp_total, nat_list_cmp_total, on_total, then_total}
 use Rattle.std.proofs.lemmas.List.Sorted.{ranks_by}
-use Rattle.iso_locklist.specs.Places.{Place}
 use Rattle.iso_queue.specs.Snapshots.{name_lt, stands_before, table_number}
 use Rattle.iso_types.specs.Ids.{name_eq}
 use Rattle.iso_types.specs.Value.{value_cmp, value_eq, value_lt}

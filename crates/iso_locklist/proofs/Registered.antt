@@ -1,5 +1,5 @@
 -- A register's names, each with its line, are places: what its calls tell is what the definitions say of the places.
-use Rattle.std.proofs.Common.{Bor, nat_lt, IfNone, IfSome, ℕ, zero, suc, ◌≡◌, ◌<◌, ◌≤◌, ◌+◌, Bool, true, false, not, ◌&&◌, ◌||◌, List, [], ◌∷◌, length, map, filter, refl, ap, sym, subst, ◌∙◌, true≢false, arith, is_some, slice_index_or, if◌then◌else◌, Option, None, Some}
+use Rattle.std.proofs.Common.{Bor, nat_lt, IfNone, IfSome, ℕ, ◌≡◌, ◌<◌, ◌+◌, Bool, true, false, not, ◌&&◌, ◌||◌, List, [], ◌∷◌, length, map, filter, refl, ap, sym, subst, ◌∙◌, true≢false, arith, is_some, slice_index_or, if◌then◌else◌, Option, None, Some}
 use Rattle.std.proofs.lemmas.Bool.{ltb-false}
 use Rattle.iso_modes.specs.Modes.{joined, mode_eq}
 use Rattle.std.proofs.lemmas.List.Sums.{length-filter}
@@ -17,8 +17,8 @@ use Rattle.iso_locklist.specs.declared.room.Room.TheVariants.{AtCapacity, AtShar
 use Rattle.iso_modes.specs.declared.Mode.{Mode}
 use Rattle.iso_queue.specs.declared.types.Hold.{Hold}
 use Rattle.iso_types.specs.declared.value.TableId.{TableId}
-use Rattle.iso_lines.specs.Named.{Named, changed, key_of, line_of, line_under, same}
-use Rattle.iso_locklist.specs.Places.{Place, all_taken, are_apart, is_grantable_in, line_at, names, nobody, place, places_in, room_by, taken, taken_below}
+use Rattle.iso_lines.specs.Named.{Named, changed, line_of, line_under, same}
+use Rattle.iso_locklist.specs.Places.{Place, all_taken, are_apart, is_grantable_in, line_at, names, nobody, place, places_in, room_by}
 use Rattle.iso_locklist.proofs.Bridge.{counted_below, distinct_left, is_one, one_left, placed}
 use Rattle.iso_locklist.proofs.Lists.{name_is}
 use Rattle.iso_locklist.proofs.Names.{name_same}

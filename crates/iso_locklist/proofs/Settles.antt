@@ -2,15 +2,11 @@
 use Rattle.std.proofs.Common.{◌≡◌, Bool, true, false, not, ◌&&◌, ◌||◌, List, [], ◌∷◌, ◌++◌, map, refl, ap, sym, subst, ◌∙◌, append_assoc}
 use Rattle.std.specs.List.{list_any}
 use Rattle.std.specs.Prelude.{filter, if◌then◌else◌, Option}
-use Rattle.std.proofs.lemmas.List.Elements.{filter-append}
 use Rattle.std.proofs.lemmas.List.Folds.{list_any-append}
-use Rattle.iso_locklist.specs.Lists.{holds_in, named_hold, named_wait, waits_in}
 use Rattle.iso_locklist.proofs.Names.{name_same}
 use Rattle.iso_modes.specs.Terms.{is_brief, is_fresh}
 use Rattle.iso_modes.specs.declared.Term.{Term}
-use Rattle.iso_queue.specs.Lines.{settled_hold}
 use Rattle.iso_queue.specs.Locks as locks
-use Rattle.iso_queue.specs.declared.types.Hold.{Hold}
 use Rattle.iso_types.specs.Ids.{conn_eq}
 use Rattle.iso_types.specs.declared.value.Conn.{Conn}
 use Rattle.iso_types.specs.declared.value.Name.{Name}

@@ -1,10 +1,10 @@
 -- The weight of a table in places is that in the list of holds, and no more than the names that the connection takes.
 use Rattle.std.proofs.Common.{◌≡◌, ◌≤◌, Bool, true, false, not, ◌&&◌, List, [], ◌∷◌, map, refl, ap, sym, subst, ◌∙◌, arith}
 use Rattle.std.specs.Option.{option_map_or}
-use Rattle.std.specs.Prelude.{◌||◌, count_by, find, is_some, Option, None, Some}
+use Rattle.std.specs.Prelude.{count_by, find, Option, None, Some}
 use Rattle.iso_locklist.specs.Holding.{AreLines}
 use Rattle.iso_locklist.specs.Lists.{IsSingleIn, holds_in, named_hold}
-use Rattle.iso_locklist.specs.Places.{are_apart, line_at, names, one, taken}
+use Rattle.iso_locklist.specs.Places.{are_apart, line_at, names, one}
 use Rattle.iso_locklist.specs.Weights.{is_weighed}
 use Rattle.iso_locklist.specs.Places.{Place}
 use Rattle.iso_lines.specs.Tasks.{is_within}
@@ -16,7 +16,7 @@ use Rattle.iso_locklist.proofs.SingleLists.{single_in}
 use Rattle.iso_locklist.proofs.Taken.{AllLines, all_lines, count_append, count_cons, count_map}
 use Rattle.iso_modes.specs.Terms.{is_brief}
 use Rattle.iso_queue.specs.Limits as limits
-use Rattle.iso_queue.specs.Lines.{Line, hold_of, is_touched, is_waiter}
+use Rattle.iso_queue.specs.Lines.{Line, hold_of}
 use Rattle.iso_queue.specs.Locks as locks
 use Rattle.iso_queue.specs.Queues.{Wait}
 use Rattle.iso_queue.specs.declared.types.Hold.{Hold}
@@ -97,26 +97,3 @@ module _ (head : Head) (ts : List TableId) (tables : ts ≡ map (λ (d : IndexDe
   weight_shown ps unlike hs xs are single =
       sym (places_count ps ps (single_in ps c unlike (single_here ps unlike hs xs are c single)).holds (all_lines ps unlike))
       ∙ alike_count (λ h. h.name) (weighs head c t) (holds_in ps) hs (holds_like ps unlike hs xs are)
-
--- a place that counts is one that the connection takes
-touched_more : (b w : Bool) (o : Option Hold) → one (b && is_long o) ≤ one (is_some o || w)
-touched_more true w None = omega arith
-touched_more false w None = omega arith
-touched_more true w (Some h) = go (not (is_brief h.term))
-  where
-    go : (b : Bool) → one b ≤ 1
-    go true = omega arith
-    go false = omega arith
-touched_more false w (Some h) = omega arith
-
--- so no more of them count than it takes
-pub weight_few : (ts : List TableId) (c : Conn) (t : TableId) (ps : List Place) → count_by (is_weighed ts c t) ps ≤ taken ps c
-weight_few ts c t [] = omega arith
-weight_few ts c t (p ∷ ps) =
-    omega (
-      arith,
-      count_cons (is_weighed ts c t) p ps,
-      count_cons (λ (r : Place). is_touched r.queue c) p ps,
-      touched_more (is_within ts t p.name) (is_waiter p.queue.waiters c) (hold_of p.queue.holders c),
-      weight_few ts c t ps,
-    )

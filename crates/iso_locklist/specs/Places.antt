@@ -2,19 +2,21 @@
 -- Db2 LUW, 'locklist' and 'maxlocks' configuration parameters; the unit of a slot is this project's own.
 use Rattle.std.specs.List.{list_any}
 use Rattle.std.specs.Option.{option_and_then, option_map, option_map_or}
-use Rattle.std.specs.Prelude.{◌≡◌, ◌<◌, ◌++◌, length, slice_get, slice_set, slice_index, map, ℕ, zero, suc, ◌+◌, Bool, true, false, not, ◌&&◌, List, [], ◌∷◌, if◌then◌else◌, nat_lt, count_by, find, Option, None, Some, Result, Ok, Err}
+use Rattle.std.specs.Prelude.{◌≡◌, map, ℕ, zero, suc, ◌+◌, Bool, true, false, not, ◌&&◌, List, [], ◌∷◌, if◌then◌else◌, nat_lt, count_by, find, Option, Result, Ok, Err}
+pub use Rattle.iso_lines.specs.Named.{cancelled, nobody, released}
+pub use Rattle.iso_lines.specs.Tasks.{is_spared, table_in}
 use Rattle.iso_lines.specs.Named.{Named, line_under}
 use Rattle.iso_locklist.specs.declared.room.LockFault.{LockFault}
 use Rattle.iso_locklist.specs.declared.room.Room.{Room}
 use Rattle.iso_locklist.specs.declared.room.Room.TheVariants.{AtCapacity, AtShare, Free}
 use Rattle.iso_modes.specs.Modes.{covers}
 use Rattle.iso_modes.specs.declared.Mode.{Mode}
-use Rattle.iso_queue.specs.Lines.{Line, edges_of, has_mode, hold_of, is_grantable, is_touched, is_waiter, settled, unheld, unqueued, waiter_of}
+use Rattle.iso_queue.specs.Lines.{Line, edges_of, has_mode, hold_of, is_grantable, is_touched, is_waiter, waiter_of}
 use Rattle.iso_queue.specs.declared.types.Asked.{Asked}
-use Rattle.iso_types.specs.Ids.{name_eq, table_eq}
+use Rattle.iso_types.specs.Ids.{name_eq}
 use Rattle.iso_types.specs.declared.value.Conn.{Conn}
 use Rattle.iso_types.specs.declared.value.Name.{Name}
-use Rattle.iso_types.specs.declared.value.Name.TheVariants.{End, Key, Row, Table}
+use Rattle.iso_types.specs.declared.value.Name.TheVariants.{Table}
 use Rattle.iso_types.specs.declared.value.TableId.{TableId}
 
 -- a name with its holders and waiters
@@ -31,10 +33,6 @@ pub record Ledger : Type 0 where
   pub share : ℕ
   pub slots : ℕ
   pub index_tables : List TableId
-
--- nobody holds or awaits the name
-abbrev pub nobody : Line
-nobody = record { holders = []; waiters = [] }
 
 -- the holders and waiters of the name
 abbrev pub line_at : List Place → Name → Line
@@ -91,25 +89,6 @@ need_of ps c n = if is_touched (line_at ps n) c then 0 else 1
 -- the room for a request: where the connection holds the mode already it needs none
 abbrev pub room_to_ask : Ledger → Conn → Name → Mode → Room
 room_to_ask l c n m = if has_mode (line_at l.places n).holders c m then Free else room_for l c (need_of l.places c n)
-
--- the connection's hold goes
-abbrev pub released : Line → Conn → Line
-released q c = record { holders = unheld c q.holders; waiters = q.waiters }
-
--- the connection's wait goes
-abbrev pub cancelled : Line → Conn → Line
-cancelled q c = record { holders = q.holders; waiters = unqueued c q.waiters }
-
--- the name is the one that is spared
-abbrev pub is_spared : Option Name → Name → Bool
-is_spared spare n = option_map_or (name_eq n) spare false
-
--- the table of a row name or key name
-abbrev pub table_in : List TableId → Name → Option TableId
-table_in index_tables (Table t) = None
-table_in index_tables (Row t r) = Some t
-table_in index_tables (Key i v) = slice_get index_tables i.0
-table_in index_tables (End i) = slice_get index_tables i.0
 
 -- the connection's wait has no edge
 abbrev pub is_grantable_in : List Place → Conn → Bool

@@ -1,4 +1,4 @@
-use Rattle.std.proofs.Common.{◌≡◌, ◌∙◌, ◌||◌, Bool, true, false, not, inl, is_some, refl, ap, sym}
+use Rattle.std.proofs.Common.{◌∙◌, inl, is_some, refl, ap, sym}
 use Rattle.iso_queue.specs.Lines.{Line, is_touched}
 use Rattle.iso_modes.specs.Terms.{is_kept}
 use Rattle.iso_lines.specs.Locks.{is_at_hand}

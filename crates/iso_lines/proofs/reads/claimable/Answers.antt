@@ -1,4 +1,4 @@
-use Rattle.std.proofs.Common.{◌<◌, length, arith}
+use Rattle.std.proofs.Common.{arith}
 use Rattle.std.proofs.lemmas.Option.{slice_get_within}
 use Rattle.iso_lines.proofs.Walked.{past-all}
 use Rattle.iso_lines.specs.Named.{line_of}

@@ -1,5 +1,4 @@
-use Rattle.std.proofs.Common.{◌<◌, ◌∙◌, length, sym, arith}
-use Rattle.std.proofs.lemmas.List.Sums.{count_by-le-length}
+use Rattle.std.proofs.Common.{◌<◌, length, arith}
 use Rattle.iso_lines.proofs.Released.{stands_within}
 use Rattle.iso_lines.proofs.Walked.{counted_end, counted_left}
 use Rattle.iso_lines.specs.Locks.{Entry}

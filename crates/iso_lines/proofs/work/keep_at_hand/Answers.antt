@@ -1,4 +1,4 @@
-use Rattle.std.proofs.Common.{rules, ◌≡◌, ◌∙◌, ap, is_some, ℕ, List}
+use Rattle.std.proofs.Common.{rules, ◌∙◌, ap, is_some, ℕ, List}
 use Rattle.indexmap.proofs.CallerLemmas.{filter-RetainsPairs}
 use Rattle.iso_types.specs.declared.value.Name.{Name}
 use Rattle.iso_lines.proofs.Worked.{kept_keys}

@@ -1,4 +1,4 @@
-use Rattle.std.proofs.Common.{rules, ◌≡◌, ◌∙◌, ap, is_some, ℕ, List}
+use Rattle.std.proofs.Common.{rules, ◌∙◌, ap, is_some, ℕ, List}
 use Rattle.indexmap.proofs.CallerLemmas.{filter-RetainsPairs}
 use Rattle.iso_queue.specs.Lines.{is_waiter}
 use Rattle.iso_types.specs.declared.value.Name.{Name}

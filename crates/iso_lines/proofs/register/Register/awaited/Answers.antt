@@ -1,5 +1,4 @@
-use Rattle.std.proofs.Common.{◌≤◌, List, Some, length, slice_get, subst, arith, ◌≡◌, ◌∙◌, Bool, false, ap, sym}
-use Rattle.std.proofs.lemmas.Option.{slice_get_read}
+use Rattle.std.proofs.Common.{◌≤◌, List, Some, length, slice_get, subst, arith, ◌≡◌, ◌∙◌, ap, sym}
 use Rattle.iso_lines.specs.declared.desk.Desk.{Desk}
 use Rattle.iso_lines.specs.Locks.{Locks}
 use Rattle.iso_lines.specs.Named.{line_of}

@@ -1,4 +1,4 @@
-use Rattle.std.proofs.Common.{◌≡◌, ◌<◌, ◌∙◌, length, ap, sym, arith}
+use Rattle.std.proofs.Common.{◌<◌, ◌∙◌, length, ap, sym, arith}
 use Rattle.iso_lines.specs.Locks.{Locks, count_of, counts_below}
 use Rattle.iso_lines.specs.Named.{line_of}
 use Rattle.iso_lines.specs.declared.desk.Desk.{Desk}

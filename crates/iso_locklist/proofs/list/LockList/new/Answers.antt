@@ -1,7 +1,3 @@
-use Rattle.std.proofs.Common.{ap, List, map, ℕ}
-use Rattle.iso_lines.specs.Named.{line_under}
-use Rattle.iso_locklist.specs.Places.{place}
-use Rattle.iso_types.specs.declared.value.Name.{Name}
 use Rattle.iso_locklist.proofs.Registered.{places_apart}
 use Rattle.iso_locklist.proofs.list.LockList.new.Goals as goal
 

@@ -1,4 +1,4 @@
-use Rattle.std.proofs.Common.{◌≡◌, ◌∙◌, Option, None, Some, IfSome, IfNone, ap, sym}
+use Rattle.std.proofs.Common.{◌∙◌, ap, sym}
 use Rattle.iso_locklist.specs.Places.{Ledger, line_at}
 use Rattle.iso_locklist.proofs.Registered.{if_none, if_some, places_line}
 use Rattle.iso_locklist.proofs.list.LockList.queue_of.Goals as goal

@@ -1,7 +1,6 @@
 use Rattle.std.proofs.Common.{◌≡◌, ◌∙◌, ◌<◌, ℕ, Bool, true, false, ap, arith, subst, sym}
 use Rattle.std.specs.Prelude.{if◌then◌else◌}
 use Rattle.iso_lines.specs.Locks.{counts_below}
-use Rattle.iso_locklist.specs.Holding.{AreLines}
 use Rattle.iso_locklist.specs.Lists.{IsAsked, grants_in}
 use Rattle.iso_locklist.specs.Places.{Ledger, all_taken, are_apart, line_at, names, need_of, places_in, room_for, room_to_ask, taken}
 use Rattle.iso_locklist.specs.declared.room.Room.{Room}

@@ -1,4 +1,4 @@
-use Rattle.std.proofs.Common.{◌≡◌, ◌∙◌, Option, ap, sym}
+use Rattle.std.proofs.Common.{◌∙◌, ap, sym}
 use Rattle.std.specs.Option.{option_map}
 use Rattle.iso_locklist.specs.Places.{line_at}
 use Rattle.iso_locklist.proofs.Awaited.{wait_nowhere, wait_there}
