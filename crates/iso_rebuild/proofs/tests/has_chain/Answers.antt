@@ -1,6 +1,5 @@
-use Rattle.std.proofs.Common.{◌∙◌, sym, subst, true, ◌≡◌, ℕ}
-use Rattle.iso_record.specs.Undone.{columns_in}
-use Rattle.iso_rebuild.proofs.Links.{IsLinked, link}
+use Rattle.std.proofs.Common.{◌∙◌, sym}
+use Rattle.iso_rebuild.proofs.Links.{link}
 use Rattle.iso_rebuild.proofs.tests.has_chain.Goals as goal
 
 pub loop-at-preserved : goal.loop-at-preserved
