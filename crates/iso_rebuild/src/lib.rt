@@ -4,3 +4,6 @@
 mod past;
 
 pub use past::{Past, rebuild};
+
+#[cfg(test)]
+mod tests;

@@ -103,7 +103,8 @@ impl Units {
         }
     }
 
-    /// The number of records of the log at the open unit's savepoint of this name; None exactly where it has none.
+    /// The number of records of the log at the open unit's savepoint of this name; None exactly where it has none. It costs as
+    /// `Marks::floor`.
     pub fn floor(&self, conn: Conn, name: Text) -> Option<u32>
         requires { conn.0 < length self.now.works }
         ensures { result ≡ floor_at (work_at self.now.works conn) name }
@@ -114,7 +115,8 @@ impl Units {
         }
     }
 
-    /// Sets a savepoint of the open unit; one of the same name moves. After `Memory` all is as before.
+    /// Sets a savepoint of the open unit; one of the same name moves. After `Memory` all is as before. It costs as `Marks::set`.
+    /// Db2 LUW, 'SAVEPOINT statement'.
     pub fn mark(&mut self, conn: Conn, name: Text, at: u32) -> Result<(), Memory>
         requires conn { conn.0 < length self.old.works }
         requires has_unit { IsSome (work_at self.old.works conn) }
@@ -128,7 +130,8 @@ impl Units {
         }
     }
 
-    /// The savepoints of the open unit that were set later than this one go.
+    /// The savepoints of the open unit that were set later than this one go. It costs as `Marks::back`.
+    /// Db2 LUW, 'ROLLBACK statement'.
     pub fn back(&mut self, conn: Conn, name: Text)
         requires conn { conn.0 < length self.old.works }
         requires has_unit { IsSome (work_at self.old.works conn) }
