@@ -4,6 +4,7 @@
 mod asking;
 mod finding;
 mod guarding;
+mod landing;
 mod laws;
 mod looking;
 mod outcomes;

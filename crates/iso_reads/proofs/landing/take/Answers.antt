@@ -6,7 +6,7 @@ use Rattle.iso_history.specs.declared.entry.Entry.{Entry}
 use Rattle.iso_state.specs.Stands.{world_of}
 use Rattle.iso_state.proofs.ByKind.{fault-was}
 use Rattle.iso_reads.proofs.NextSteps.{taken-holds}
-use Rattle.iso_reads.proofs.stepping.take.Goals as goal
+use Rattle.iso_reads.proofs.landing.take.Goals as goal
 
 pub take_key-requires-clause-places : goal.take_key-requires-clause-places
 take_key-requires-clause-places c =

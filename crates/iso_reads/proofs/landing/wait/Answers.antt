@@ -3,7 +3,7 @@ use Rattle.iso_history.specs.Stops.{is_full}
 use Rattle.iso_history.specs.declared.entry.Entry.{Entry}
 use Rattle.iso_state.specs.Stands.{world_of}
 use Rattle.iso_state.proofs.ByKind.{fault-was}
-use Rattle.iso_reads.proofs.stepping.wait.Goals as goal
+use Rattle.iso_reads.proofs.landing.wait.Goals as goal
 
 pub returns-in_err-wait_key-clause-full : goal.returns-in_err-wait_key-clause-full
 returns-in_err-wait_key-clause-full c =
