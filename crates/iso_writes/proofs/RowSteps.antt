@@ -42,7 +42,7 @@ use Rattle.iso_writes.proofs.ChangeSteps.{change-allowed, change-place, lt-now}
 use Rattle.iso_writes.proofs.Keyed.{keys-gained}
 use Rattle.iso_writes.proofs.Taken.{insert-holds, update-holds}
 use Rattle.iso_writes.specs.Changing.{LeavesRoom, key_asks, row_ask, with_keys, written_at}
-use Rattle.iso_writes.specs.declared.changing.Into.TheVariants.{NewSlot, Slot}
+use Rattle.iso_writes.specs.declared.changing.Destination.TheVariants.{NewSlot, Slot}
 
 -- who runs does not wait
 runs-idle : (e f d x s : Bool) → phase_of e f d x s ≡ Running → x ≡ false

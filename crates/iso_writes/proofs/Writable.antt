@@ -25,7 +25,7 @@ use Rattle.iso_types.specs.declared.value.TableId.{TableId}
 use Rattle.iso_types.specs.declared.value.Value.{Value}
 use Rattle.iso_writes.proofs.Rows.{new-wide, row-short, seen-of}
 use Rattle.iso_writes.specs.Changing.{MayCome, MayRecord}
-use Rattle.iso_writes.specs.declared.changing.Into.TheVariants.{NewSlot, Slot}
+use Rattle.iso_writes.specs.declared.changing.Destination.TheVariants.{NewSlot, Slot}
 
 -- the first of two is done
 pub first-done : (a b : Written) → or_else a b ≡ Done → a ≡ Done

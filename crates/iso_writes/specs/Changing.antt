@@ -27,8 +27,8 @@ use Rattle.iso_types.specs.declared.value.Rid.{Rid}
 use Rattle.iso_types.specs.declared.value.TableId.{TableId}
 use Rattle.iso_types.specs.declared.value.Value.{Value}
 use Rattle.iso_uow.specs.Book.{debt_of, work_at}
-use Rattle.iso_writes.specs.declared.changing.Into.{Into}
-use Rattle.iso_writes.specs.declared.changing.Into.TheVariants.{NewSlot, Slot}
+use Rattle.iso_writes.specs.declared.changing.Destination.{Destination}
+use Rattle.iso_writes.specs.declared.changing.Destination.TheVariants.{NewSlot, Slot}
 use Rattle.iso_writes.specs.declared.coming.Written.{Written}
 use Rattle.iso_writes.specs.declared.coming.Written.TheVariants.{Blocked, Escalates, Refused, TimedOut}
 
@@ -54,13 +54,13 @@ pub record MayRecord (k : Chained) (c : Conn) (t : TableId) : Type 0 where
   pub table : t.0 < length k.tables
 
 -- the row may come there: the table has a slot left, or the slot is there, and its row as wide
-abbrev pub MayCome : Into → Chained → TableId → Rid → List Value → Type 0
+abbrev pub MayCome : Destination → Chained → TableId → Rid → List Value → Type 0
 MayCome NewSlot k t r row = length (slots_of k.tables t) < 65536
 MayCome Slot k t r row =
     (r.0 < length (slots_of k.tables t)) × (length row ≡ length (slot_in k.tables t r).row) × (length row ≤ 256)
 
 -- slots, log and units with the row there
-abbrev pub with_row : Into → Chained → Conn → TableId → Rid → List Value → Chained
+abbrev pub with_row : Destination → Chained → Conn → TableId → Rid → List Value → Chained
 with_row NewSlot k c t r row = inserted k c t row
 with_row Slot k c t r row = written k c t r (Some row)
 
@@ -110,7 +110,7 @@ without_added false p k q = p
 without_added true p k q = record p { entries = slice_set p.entries k (without_pair q (slice_index_or p.entries k [])) }
 
 -- the content with the row, and its keys in the indexes from the k-th on
-abbrev pub written_at : Content → Conn → Into → TableId → Rid → List Value → ℕ → Content
+abbrev pub written_at : Content → Conn → Destination → TableId → Rid → List Value → ℕ → Content
 written_at p c into t r row k =
     record p { chain = with_row into p.chain c t r row; entries = with_keys p.head t r row (length p.head.indexes - k) k p.entries }
 

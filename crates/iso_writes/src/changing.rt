@@ -93,7 +93,7 @@ fn olds_for(
     row: &Row,
 ) -> Result<Items<(u8, Value)>, StepFault>
     requires table { table.0 < length parts.now.tables }
-    requires slot { MayCome Into.Slot (content_of parts.now).chain table rid row.now }
+    requires slot { MayCome Destination.Slot (content_of parts.now).chain table rid row.now }
     ensures olds { IfOk result (λ list. list ≡ olds (slot_in (bare parts.now.tables) table rid).row row.now) }
     ensures fault { result ≢ Err StepFault.HistoryFull }
 {
@@ -114,7 +114,7 @@ fn write_updated(
     row: &Row,
 ) -> Result<(), StepFault>
     requires may { MayRecord (content_of parts.old).chain conn table }
-    requires slot { MayCome Into.Slot (content_of parts.old).chain table rid row.now }
+    requires slot { MayCome Destination.Slot (content_of parts.old).chain table rid row.now }
     ensures wrote { OnOk result (content_of parts.new ≡ rechained (content_of parts.old) (written (content_of parts.old).chain conn table rid (Some row.now))) }
     ensures room { OnOk result (LeavesRoom parts.old parts.new) }
     ensures err { OnErr result (content_of parts.new ≡ content_of parts.old) }
@@ -182,7 +182,7 @@ fn write_inserted(
 
 /// Where a row comes to stand: in a slot more of its table, or in the slot of its rid.
 #[derive(Clone, Copy, PartialEq, Eq)]
-pub enum Into {
+pub enum Destination {
     NewSlot,
     Slot,
 }
@@ -193,7 +193,7 @@ pub fn write_row(
     alloc: Global,
     parts: &mut Parts,
     conn: Conn,
-    into: Into,
+    into: Destination,
     table: TableId,
     rid: Rid,
     row: &Row,
@@ -207,8 +207,8 @@ pub fn write_row(
     ensures fault { result ≢ Err StepFault.HistoryFull }
 {
     match into {
-        Into::NewSlot => write_inserted(alloc, parts, conn, table, row),
-        Into::Slot => write_updated(alloc, parts, conn, table, rid, row),
+        Destination::NewSlot => write_inserted(alloc, parts, conn, table, row),
+        Destination::Slot => write_updated(alloc, parts, conn, table, rid, row),
     }
 }
 

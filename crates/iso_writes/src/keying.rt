@@ -5,7 +5,7 @@ ghost use Rattle.iso_state.specs.Stands.{content_of};
 ghost use Rattle.iso_state.specs.Steps.{KeepsRoom};
 ghost use Rattle.iso_writes.specs.Changing.{LeavesRoom, MayCome, MayRecord, own_key as key_of_own, with_pair_at, without_added, written_at};
 
-use crate::changing::{Into, write_row};
+use crate::changing::{Destination, write_row};
 use crate::keys::value_in;
 use iso_state::Parts;
 use iso_types::{Conn, Head, Rid, Row, StepFault, TableId, Value};
@@ -57,7 +57,7 @@ pub fn write_from(
     alloc: Global,
     parts: &mut Parts,
     conn: Conn,
-    into: Into,
+    into: Destination,
     table: TableId,
     rid: Rid,
     row: &Row,

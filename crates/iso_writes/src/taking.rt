@@ -10,7 +10,7 @@ ghost use Rattle.iso_state.specs.Stands.{StandsFor, content_of, world_of};
 ghost use Rattle.iso_state.specs.Steps.{KeepsRoom};
 ghost use Rattle.iso_writes.specs.Changing.{LeavesRoom, MayCome, MayRecord, key_ask as ask_on_key, key_asks, row_ask as ask_on_row, written_at};
 
-use crate::changing::Into;
+use crate::changing::Destination;
 use crate::keying::{own_key, write_from};
 use crate::keys::inherits_key;
 use iso_locklist::{Asking, LockList};
@@ -134,7 +134,7 @@ pub fn write_locked(
     parts: &mut Parts,
     conn: Conn,
     asks: &[Asking],
-    into: Into,
+    into: Destination,
     table: TableId,
     rid: Rid,
     row: &Row,

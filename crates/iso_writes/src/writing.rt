@@ -9,7 +9,7 @@ ghost use Rattle.iso_types.specs.Head.{row_fits};
 ghost use Rattle.iso_state.specs.Changes.{relocked};
 ghost use Rattle.iso_state.specs.Stands.{StandsFor, content_of, world_of};
 
-use crate::changing::{Into, copy_of, next_slot, write_deleted};
+use crate::changing::{Destination, copy_of, next_slot, write_deleted};
 use crate::taking::{asks_for, row_ask, write_locked};
 use iso_history::{Act, Entry, Who};
 use iso_state::{Parts, enter, make_room};
@@ -71,7 +71,7 @@ pub fn make_update(
         parts,
         conn,
         asks.as_slice(),
-        Into::Slot,
+        Destination::Slot,
         table,
         rid,
         row,
@@ -120,7 +120,7 @@ pub fn make_insert(
         parts,
         conn,
         asks.as_slice(),
-        Into::NewSlot,
+        Destination::NewSlot,
         table,
         rid,
         row,
