@@ -4,3 +4,4 @@ pub mod Transcript
 pub mod Fields
 pub mod Trace
 pub mod Summary
+pub mod Outputs

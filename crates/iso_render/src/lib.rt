@@ -7,6 +7,7 @@ mod entries;
 mod fields;
 mod names;
 mod opened;
+mod outputs;
 mod put;
 mod said;
 mod tallies;
@@ -14,6 +15,7 @@ mod totals;
 mod tracing;
 
 pub use entries::transcript;
+pub use outputs::{Output, write_count, write_output};
 pub use totals::summary;
 pub use tracing::trace;
 
