@@ -4,6 +4,7 @@ pub mod Finished
 pub mod Pinned
 pub mod Stepping
 pub mod ScanSteps
+pub mod ScanLooks
 pub mod LookMade
 pub mod ScansBegin
 pub mod ScansAlong
