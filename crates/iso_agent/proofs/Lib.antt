@@ -20,3 +20,4 @@ pub mod Undoing
 pub mod Quieting
 pub mod Making
 pub mod Dues
+pub mod NextStepping

@@ -20,6 +20,7 @@ use Rattle.iso_history.specs.declared.entry.Cause.TheVariants.{History, Memory}
 use Rattle.iso_history.specs.declared.entry.Entry.{Entry}
 use Rattle.iso_locks.specs.declared.locking.Answer.{Answer as LockAnswer}
 use Rattle.iso_reads.specs.declared.outcomes.Looked.{Looked}
+use Rattle.iso_reads.specs.declared.stepping.Stepped.{Stepped as NextStepped}
 use Rattle.iso_rebuild.specs.Chains.{HasChain}
 use Rattle.iso_types.specs.declared.head.Head.{Head}
 use Rattle.iso_types.specs.declared.items.StepFault.{StepFault}
@@ -53,6 +54,15 @@ kept_of_look Looked.Queued fresh waits = keeps Told.Queued
 kept_of_look Looked.TimedOut fresh waits = keeps Told.TimedOut
 kept_of_look (Looked.Escalates t) fresh waits = escalating (Told.Escalates t) waits
 kept_of_look (Looked.Refused code) fresh waits = keeps (Told.Refused code)
+
+-- of a step of an index scan, by whether the connection waits now
+abbrev pub kept_of_next : NextStepped → Bool → Kept
+kept_of_next (NextStepped.At key rid) waits = keeps (Told.At key rid)
+kept_of_next NextStepped.Past waits = keeps Told.Past
+kept_of_next NextStepped.Queued waits = keeps Told.Queued
+kept_of_next NextStepped.TimedOut waits = keeps Told.TimedOut
+kept_of_next (NextStepped.Escalates t) waits = escalating (Told.Escalates t) waits
+kept_of_next (NextStepped.Refused code) waits = keeps (Told.Refused code)
 
 -- of a write; where the table is full the statement stops
 abbrev pub stepped_of_write : Written → Bool → Stepped

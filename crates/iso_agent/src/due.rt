@@ -11,7 +11,7 @@ use crate::ends::{
     make_back, make_commit, make_mark, make_reply, make_rollback, make_set, make_undo,
 };
 use crate::locks::{make_claim, make_collapse, make_free, make_lock};
-use crate::looks::make_look;
+use crate::looks::{make_look, make_next};
 use crate::stepped::Stepped;
 use crate::writes::{make_delete, make_insert, make_refusal, make_update};
 use iso_conduct::{Move, Task};
@@ -38,7 +38,12 @@ pub fn step_due(alloc: Global, parts: &mut Parts, conn: Conn, task: &mut Task) -
         Move::Lock { name, mode } => make_lock(parts, conn, name, mode),
         Move::Claim => make_claim(parts, conn),
         Move::Look { table, rid, want } => make_look(alloc, parts, conn, table, rid, want),
-        Move::Next { .. } => unreachable!(),
+        Move::Next {
+            index,
+            range,
+            after,
+            guarded,
+        } => make_next(alloc, parts, conn, index, &range, after, guarded),
         Move::Free { table, rid } => make_free(parts, conn, table, rid),
         Move::Collapse { table } => make_collapse(parts, conn, table),
         Move::Insert { table } => make_insert(alloc, parts, conn, table, task.row()),

@@ -1,20 +1,22 @@
-//! The step of a look, as an agent makes it.
+//! The steps of looks and of index scans, as an agent makes them.
 ghost use Rattle.std.specs.Prelude.{◌≡◌, ◌≤◌, ◌<◌, length, false, IsTrue};
 ghost use Rattle.iso_history.specs.Legal.{Runs};
 ghost use Rattle.iso_history.specs.Looks.{may_look};
+ghost use Rattle.iso_history.specs.Nexts.{may_next};
 ghost use Rattle.iso_history.specs.Outcomes.{look_act};
 ghost use Rattle.iso_history.specs.Versions.{slots};
 ghost use Rattle.iso_state.specs.Stands.{StandsFor, world_of};
 ghost use Rattle.iso_types.specs.Head.{is_table};
-ghost use Rattle.iso_agent.specs.Steps.{HasStepped, kept_of_look};
+ghost use Rattle.iso_reads.specs.Nexts.{next_act};
+ghost use Rattle.iso_agent.specs.Steps.{HasStepped, kept_of_look, kept_of_next};
 
 use crate::agent::Kept;
 use crate::stepped::{Stepped, cause_of, keep, keep_escalation, waits};
 use iso_conduct::Told;
 use iso_history::Want;
-use iso_reads::{Looked, look};
+use iso_reads::{Looked, Stepped as NextStepped, look, next_entry};
 use iso_state::{Parts, is_fresh_on};
-use iso_types::{Conn, Name, Rid, TableId};
+use iso_types::{Conn, IndexId, Name, Range, Rid, TableId, Value};
 use std::alloc::Global;
 
 /// What is kept of the answer to a look.
@@ -57,6 +59,45 @@ pub fn make_look(
             let fresh = is_fresh_on(parts, conn, &Name::Row(table, rid));
             Stepped::Goes(keep_look(looked, fresh, waits(parts, conn)))
         }
+        Err(fault) => Stepped::Stops(cause_of(fault)),
+    }
+}
+
+/// What is kept of the answer to a step of an index scan.
+fn keep_next(stepped: NextStepped, waits: bool) -> Kept
+    ensures { result ≡ kept_of_next stepped waits }
+{
+    match stepped {
+        NextStepped::At(key, rid) => keep(Told::At(key, rid)),
+        NextStepped::Past => keep(Told::Past),
+        NextStepped::Queued => keep(Told::Queued),
+        NextStepped::TimedOut => keep(Told::TimedOut),
+        NextStepped::Escalates(table) => keep_escalation(Told::Escalates(table), waits),
+        NextStepped::Refused(code) => keep(Told::Refused(code)),
+    }
+}
+
+/// Makes the entry of a step of an index scan.
+pub fn make_next(
+    alloc: Global,
+    parts: &mut Parts,
+    conn: Conn,
+    index: IndexId,
+    range: &Range,
+    after: Option<(Value, Rid)>,
+    guarded: bool,
+) -> Stepped
+    requires stands { StandsFor parts.old }
+    requires open { (world_of parts.old).pace.finished ≡ false }
+    requires conn { conn.0 < length parts.old.head.conns }
+    requires runs { Runs (world_of parts.old) conn }
+    requires may { IsTrue (may_next parts.old.head (world_of parts.old) conn index range.now after guarded) }
+    ensures stands { StandsFor parts.new }
+    ensures head { parts.new.head ≡ parts.old.head }
+    ensures stepped { HasStepped parts.old.head parts.old.history.items parts.new.history.items conn (next_act parts.old.head (world_of parts.old) conn index range.now after guarded) result }
+{
+    match next_entry(alloc, parts, conn, index, range, after, guarded) {
+        Ok(stepped) => Stepped::Goes(keep_next(stepped, waits(parts, conn))),
         Err(fault) => Stepped::Stops(cause_of(fault)),
     }
 }

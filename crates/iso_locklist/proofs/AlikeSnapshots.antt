@@ -9,9 +9,9 @@ use Rattle.std.proofs.lemmas.List.Folds.{list_any-append}
 use Rattle.iso_locklist.proofs.Order.{name_cmp}
 use Rattle.iso_queue.specs.declared.LockLine.{LockLine}
 use Rattle.iso_locklist.specs.Lists.{HoldsAlike, WaitsAlike, holds_in, waits_in}
-use Rattle.iso_locklist.specs.Places.{are_apart, names}
+use Rattle.iso_locklist.specs.Places.{are_apart, line_at, names, place}
 use Rattle.iso_locklist.specs.Snapshots.{lines_of}
-use Rattle.iso_locklist.specs.declared.places.Place.{Place}
+use Rattle.iso_locklist.specs.Places.{Place}
 use Rattle.iso_locklist.proofs.AlikeHolds.{alike_hold_on, filter_like}
 use Rattle.iso_locklist.proofs.Lists.{any_map, any_seek}
 use Rattle.iso_locklist.proofs.Names.{name_like, name_same}
@@ -107,10 +107,10 @@ module _ (head : Head) (hs gs : List locks.Hold) (holds : HoldsAlike hs gs) (ws 
       ∙ flat_same (lines_at head hs ws) (lines_at head gs vs) (ordered head (used gs vs)) lines_alike
 
 -- the lines of the places, in the order of their names, are the snapshot of lists that are alike
-pub snapshot_shown : (head : Head) (ps : List Place) (rs : List (Bor Place)) → (apart : are_apart (names ps) ≡ true) → (moved : IsPermutation ps (map (λ p. p.now) rs))
-    → (up : IsSortedBy (λ p q. name_lt head p.now.name q.now.name) rs) → (hs : List locks.Hold) (xs : List queues.Wait)
-    → HoldsAlike (holds_in ps) hs → WaitsAlike (waits_in ps) xs → flat_map (λ p. lines_of head p.now) rs ≡ snapshot head hs xs
+pub snapshot_shown : (head : Head) (ps : List Place) (rs : List (Bor Name)) → (apart : are_apart (names ps) ≡ true) → (moved : IsPermutation ps (map (λ p. place p.now (line_at ps p.now)) rs))
+    → (up : IsSortedBy (λ p q. name_lt head p.now q.now) rs) → (hs : List locks.Hold) (xs : List queues.Wait)
+    → HoldsAlike (holds_in ps) hs → WaitsAlike (waits_in ps) xs → flat_map (λ p. lines_of head (place p.now (line_at ps p.now))) rs ≡ snapshot head hs xs
 snapshot_shown head ps rs apart moved up hs xs holds waits =
     snapshot_is head ps rs apart moved up
-    ∙ snapshot_alike head (holds_in ps) hs holds (waits_in ps) xs waits (map (λ (p : Bor Place). p.now.name) rs)
+    ∙ snapshot_alike head (holds_in ps) hs holds (waits_in ps) xs waits (map (λ (p : Bor Name). p.now) rs)
     (rising head ps rs apart moved up) (used_known head ps rs apart moved up)

@@ -5,7 +5,7 @@ use Rattle.std.specs.List.{list_any}
 use Rattle.std.specs.Prelude.{count_by, filter, is_some, Option, None, Some}
 use Rattle.iso_locklist.specs.Lists.{IsAsked, asked_for, grants_in, holds_in, named_hold, named_wait, waiting_for, waits_in}
 use Rattle.iso_locklist.specs.Places.{are_apart, line_at, names}
-use Rattle.iso_locklist.specs.declared.places.Place.{Place}
+use Rattle.iso_locklist.specs.Places.{Place}
 use Rattle.iso_locklist.proofs.AlikeHolds.{added_at, added_beside}
 use Rattle.iso_locklist.proofs.AlikeWaits.{queued_at, queued_beside}
 use Rattle.iso_locklist.proofs.Asks.{held_is, line_front, unheard_by, would_wait_is}

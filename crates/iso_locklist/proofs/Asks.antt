@@ -6,7 +6,7 @@ use Rattle.std.specs.Prelude.{count_by, find, is_some, take_while, Option, None,
 use Rattle.std.proofs.lemmas.Cmp.{nat_eq_equiv}
 use Rattle.iso_locklist.specs.Lists.{holds_in, named_hold, named_wait, waits_in}
 use Rattle.iso_locklist.specs.Places.{are_apart, line_at, names}
-use Rattle.iso_locklist.specs.declared.places.Place.{Place}
+use Rattle.iso_locklist.specs.Places.{Place}
 use Rattle.iso_locklist.proofs.Lists.{any_map, hold_of_name, name_is, none}
 use Rattle.iso_locklist.proofs.Names.{name_same}
 use Rattle.iso_locklist.proofs.Taken.{absent}

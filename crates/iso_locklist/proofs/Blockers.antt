@@ -8,7 +8,7 @@ use Rattle.std.proofs.lemmas.Cmp.{nat_eq_equiv}
 use Rattle.std.proofs.lemmas.List.Folds.{list_any-append}
 use Rattle.iso_locklist.specs.Lists.{holds_in, named_hold, named_wait, waits_in}
 use Rattle.iso_locklist.specs.Places.{are_apart, edges_in, line_at, names}
-use Rattle.iso_locklist.specs.declared.places.Place.{Place}
+use Rattle.iso_locklist.specs.Places.{Place}
 use Rattle.iso_locklist.proofs.Lists.{any_map, any_seek, holds_of_name}
 use Rattle.iso_locklist.proofs.Taken.{AllLines, all_lines, wait_is}
 use Rattle.iso_locklist.proofs.Waits.{ahead_is, found_true}

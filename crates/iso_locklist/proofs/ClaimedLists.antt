@@ -5,7 +5,7 @@ use Rattle.std.specs.Prelude.{count_by, filter, find, if◌then◌else◌, is_so
 use Rattle.std.proofs.lemmas.Bool.{eqb-true}
 use Rattle.iso_locklist.specs.Lists.{IsClaimed, asked_for, claimed_holds, claimed_waits, holds_in, named_hold, named_wait, waits_in}
 use Rattle.iso_locklist.specs.Places.{are_apart, line_at, names, one}
-use Rattle.iso_locklist.specs.declared.places.Place.{Place}
+use Rattle.iso_locklist.specs.Places.{Place}
 use Rattle.iso_locklist.proofs.Alike.{find_parts, swap}
 use Rattle.iso_locklist.proofs.AlikeHolds.{added_at, added_beside}
 use Rattle.iso_locklist.proofs.AlikeWaits.{found_count, own}

@@ -5,9 +5,9 @@ use Rattle.std.specs.Option.{option_map, option_map_or}
 use Rattle.std.specs.Prelude.{count_by, filter, find, if◌then◌else◌, is_some, take_while, ◌++◌, Option, None, Some}
 use Rattle.iso_locklist.specs.Holding.{AreLines, AreOfHead, WaitsOnce, holds_mode, need_in, room_asked, room_in_lists, settled_beside}
 use Rattle.iso_locklist.specs.Lists.{HoldsAlike, IsAsked, IsClaimed, IsSingleIn, WaitsAlike, asked_for, claimed_holds, claimed_waits, grants_in, holds_in, named_hold, named_wait, waiting_for, waits_in}
-use Rattle.iso_locklist.specs.Places.{all_taken, are_apart, cancelled, edges_in, is_grantable_in, is_in, is_spared as spares, line_at, names, nobody, one, released, taken, wait_in, Ledger, need_of, room_by, room_to_ask}
+use Rattle.iso_locklist.specs.Places.{all_taken, are_apart, cancelled, edges_in, is_grantable_in, is_spared as spares, line_at, names, nobody, one, released, taken, wait_in, Ledger, need_of, room_by, room_to_ask}
 use Rattle.iso_locklist.specs.declared.room.Room.TheVariants.{Free}
-use Rattle.iso_locklist.specs.declared.places.Place.{Place}
+use Rattle.iso_locklist.specs.Places.{Place}
 use Rattle.iso_locklist.proofs.Alike.{alike_count, alike_filter, swap}
 use Rattle.iso_locklist.proofs.AlikeClaims.{alike_claimed_holds, alike_claimed_waits}
 use Rattle.iso_locklist.proofs.AlikeHolds.{alike_added, alike_covered, alike_hold_on, filter_like}
@@ -39,7 +39,7 @@ use Rattle.iso_types.specs.Head.{is_on}
 use Rattle.iso_types.specs.Ids.{conn_eq, name_eq, table_eq}
 use Rattle.iso_types.specs.declared.head.IndexDef.{IndexDef}
 use Rattle.iso_types.specs.declared.value.TableId.{TableId}
-use Rattle.iso_locklist.specs.declared.places.Scope.TheVariants.{Beside, OnTable}
+use Rattle.iso_lines.specs.Tasks.{is_within}
 use Rattle.iso_types.specs.declared.head.Head.{Head}
 use Rattle.iso_types.specs.declared.value.Conn.{Conn}
 use Rattle.iso_types.specs.declared.value.Name.{Name}
@@ -378,10 +378,6 @@ module _ (ps qs : List Place) (unlike : are_apart (names ps) ≡ true) (still : 
             rw same refl
 
 -- ---- what is done in some lines
-pub still_nobody : (b : Bool) → (if b then nobody else nobody) ≡ nobody
-still_nobody true = refl
-still_nobody false = refl
-
 holds_by : (b : Bool) (q r : Line) → (if b then q else r).holders ≡ (if b then q.holders else r.holders)
 holds_by true q r = refl
 holds_by false q r = refl
@@ -389,18 +385,18 @@ holds_by false q r = refl
 module _ (hs : List Hold) (xs : List Wait) (old new : Name → Line) (are : AreLines hs xs old) (c : Conn) where
   -- the holds of the connection on a table's rows and keys go
   pub lines_collapsed : (head : Head) (ts : List TableId) → ts ≡ map (λ (d : IndexDef). d.table) head.indexes → (t : TableId)
-      → ((n : Name) → new n ≡ (if is_in ts (OnTable t) n then released (old n) c else old n))
+      → ((n : Name) → new n ≡ (if is_within ts t n then released (old n) c else old n))
       → AreLines (collapsed head c t hs) xs new
   lines_collapsed head ts tables t done = record {
     holds = λ n. by n (is_on head t n) refl ∙ ap (filter goes) (are.holds n) ∙ swap goes (λ h. name_eq h.name n) hs;
-    waits = λ n. awaited n (is_in ts (OnTable t) n) (done n) ∙ are.waits n;
+    waits = λ n. awaited n (is_within ts t n) (done n) ∙ are.waits n;
   }
     where
       goes : Hold → Bool
       goes h = not (conn_eq h.conn c && is_on head t h.name)
 
-      inside : (n : Name) → is_in ts (OnTable t) n ≡ is_on head t n
-      inside n = ap (λ (us : List TableId). is_in us (OnTable t) n) tables ∙ ap (λ (o : Option TableId). option_map_or (λ u. table_eq u t) o false) (table_like head n)
+      inside : (n : Name) → is_within ts t n ≡ is_on head t n
+      inside n = ap (λ (us : List TableId). is_within us t n) tables ∙ ap (λ (o : Option TableId). option_map_or (λ u. table_eq u t) o false) (table_like head n)
 
       by : (n : Name) (b : Bool) → is_on head t n ≡ b → map (named_hold n) (new n).holders ≡ filter goes (map (named_hold n) (old n).holders)
       by n true e =
@@ -420,14 +416,14 @@ module _ (hs : List Hold) (xs : List Wait) (old new : Name → Line) (are : AreL
 
   -- its holds on all names but one are settled
   pub lines_beside : (spare : Option Name) (m : Name)
-      → ((n : Name) → new n ≡ (if is_in [] (Beside m) n then lines.settled (old n) c (spares spare n) else old n))
+      → ((n : Name) → new n ≡ (if name_eq m n then old n else lines.settled (old n) c (spares spare n)))
       → AreLines (settled_beside c spare m hs) xs new
   lines_beside spare m done = record {
     holds = λ n. by n (name_eq m n) refl
         ∙ ap (λ (l : List Hold). filter stay (map settle l)) (are.holds n)
         ∙ ap (filter stay) (sym (settled_at n hs))
         ∙ swap stay (λ h. name_eq h.name n) (map settle hs);
-    waits = λ n. awaited n (not (name_eq m n)) (done n) ∙ are.waits n;
+    waits = λ n. awaited n (name_eq m n) (done n) ∙ are.waits n;
   }
     where
       stay : Hold → Bool
@@ -436,7 +432,7 @@ module _ (hs : List Hold) (xs : List Wait) (old new : Name → Line) (are : AreL
       settle : Hold → Hold
       settle h = if name_eq m h.name then h else settled_one c spare h
 
-      awaited : (n : Name) (b : Bool) → new n ≡ (if b then lines.settled (old n) c (spares spare n) else old n) → map (named_wait n) (new n).waiters ≡ map (named_wait n) (old n).waiters
+      awaited : (n : Name) (b : Bool) → new n ≡ (if b then old n else lines.settled (old n) c (spares spare n)) → map (named_wait n) (new n).waiters ≡ map (named_wait n) (old n).waiters
       awaited n true e = ap (λ (q : Line). map (named_wait n) q.waiters) e
       awaited n false e = ap (λ (q : Line). map (named_wait n) q.waiters) e
 
@@ -461,13 +457,13 @@ module _ (hs : List Hold) (xs : List Wait) (old new : Name → Line) (are : AreL
 
       by : (n : Name) (b : Bool) → name_eq m n ≡ b → map (named_hold n) (new n).holders ≡ filter stay (map settle (map (named_hold n) (old n).holders))
       by n true e =
-          ap (λ (q : Line). map (named_hold n) q.holders) (done n ∙ ap (λ (b : Bool). if not b then lines.settled (old n) c (spares spare n) else old n) e)
+          ap (λ (q : Line). map (named_hold n) q.holders) (done n ∙ ap (λ (b : Bool). if b then old n else lines.settled (old n) c (spares spare n)) e)
           ∙ sym (ap (filter stay) (sym (map_maps (λ (h : Holder). h) (named_hold n) settle (old n).holders (λ h. sym (ap (λ (b : Bool). if b then named_hold n h else settled_one c spare (named_hold n h)) e)))
           ∙ ap (map (named_hold n)) (map_none (λ (h : Holder). h) (old n).holders (λ h. refl)))
           ∙ filter_map_on stay (named_hold n) (old n).holders
           ∙ ap (map (named_hold n)) (all_stay (λ (h : Holder). stay (named_hold n h)) (old n).holders (λ h. ap (λ (b : Bool). b || not (conn_eq h.conn c && is_brief h.term)) e)))
       by n false e =
-          ap (λ (q : Line). map (named_hold n) q.holders) (done n ∙ ap (λ (b : Bool). if not b then lines.settled (old n) c (spares spare n) else old n) e)
+          ap (λ (q : Line). map (named_hold n) q.holders) (done n ∙ ap (λ (b : Bool). if b then old n else lines.settled (old n) c (spares spare n)) e)
           ∙ ap (map (named_hold n)) (filter_like (λ (h : Holder). not (conn_eq h.conn c && is_brief h.term)) (λ h. stay (named_hold n h)) (map (lines.settled_hold c (spares spare n)) (old n).holders)
           (λ h. sym (ap (λ (b : Bool). b || not (conn_eq h.conn c && is_brief h.term)) e)))
           ∙ sym (filter_map_on stay (named_hold n) (map (lines.settled_hold c (spares spare n)) (old n).holders))

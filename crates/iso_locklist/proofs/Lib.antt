@@ -1,8 +1,4 @@
 pub mod Names
-pub mod Updates
-pub mod Touched
-pub mod Counts
-pub mod Parts
 pub mod Apart
 pub mod Lists
 pub mod Taken
@@ -27,3 +23,6 @@ pub mod AlikeClaims
 pub mod Holding
 pub mod NewNames
 pub mod Weighed
+pub mod Bridge
+pub mod Awaited
+pub mod Registered

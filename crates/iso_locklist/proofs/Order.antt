@@ -9,7 +9,7 @@ use Rattle.std.specs.declared.cmp.Ordering.TheVariants.{Equal, Greater, Less}
 use Rattle.std.proofs.lemmas.Bool.Decides.{Decides-int_eq, nat_tests}
 use Rattle.std.proofs.lemmas.Cmp.{int_cmp_total, int_ranked, nat_cmp_total, nat_list_cmp_total, on_total, then_total}
 use Rattle.std.proofs.lemmas.List.Sorted.{ranks_by}
-use Rattle.iso_locklist.specs.declared.places.Place.{Place}
+use Rattle.iso_locklist.specs.Places.{Place}
 use Rattle.iso_queue.specs.Snapshots.{name_lt, stands_before, table_number}
 use Rattle.iso_types.specs.Ids.{name_eq}
 use Rattle.iso_types.specs.Value.{value_cmp, value_eq, value_lt}
@@ -150,13 +150,13 @@ lt_is head n m =
     less_then (table_number head n) (table_number head m) (table_cmp n m)
     ∙ ap (λ (b : Bool). nat_lt (table_number head n) (table_number head m) || ((table_number head n == table_number head m) && b)) (in_table n m)
 
-pub name_weak : (head : Head) → IsStrictWeakOrder (λ (p q : Bor Place). name_lt head p.now.name q.now.name)
+pub name_weak : (head : Head) → IsStrictWeakOrder (λ (p q : Bor Name). name_lt head p.now q.now)
 name_weak head =
-    let o = ranks_by (name_total head) (λ (p : Bor Place). p.now.name) in
+    let o = ranks_by (name_total head) (λ (p : Bor Name). p.now) in
     record {
-      one_way = λ p q e. sym (lt_is head q.now.name p.now.name) ∙ o.one_way p q (lt_is head p.now.name q.now.name ∙ e);
-      chain = λ p q r e f. sym (lt_is head p.now.name r.now.name)
-          ∙ o.chain p q r (lt_is head p.now.name q.now.name ∙ e) (lt_is head q.now.name r.now.name ∙ f);
+      one_way = λ p q e. sym (lt_is head q.now p.now) ∙ o.one_way p q (lt_is head p.now q.now ∙ e);
+      chain = λ p q r e f. sym (lt_is head p.now r.now)
+          ∙ o.chain p q r (lt_is head p.now q.now ∙ e) (lt_is head q.now r.now ∙ f);
     }
 
 then_equal : (o p : Ordering) → ordering_then o p ≡ Equal → (o ≡ Equal) × (p ≡ Equal)

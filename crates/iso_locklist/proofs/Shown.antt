@@ -8,9 +8,9 @@ use Rattle.std.proofs.lemmas.List.Folds.{list_any-append}
 use Rattle.std.proofs.lemmas.List.Sorted.{All-permutation, IsPermutation-map, list_any-IsPermutation}
 use Rattle.std.proofs.lemmas.Map.Keys.{IsDistinct-IsPermutation}
 use Rattle.iso_locklist.specs.Lists.{holds_in, named_hold, named_wait, waits_in}
-use Rattle.iso_locklist.specs.Places.{are_apart, line_at, names}
+use Rattle.iso_locklist.specs.Places.{are_apart, line_at, names, place}
 use Rattle.iso_locklist.specs.Snapshots.{holder_line, lines_of}
-use Rattle.iso_locklist.specs.declared.places.Place.{Place}
+use Rattle.iso_locklist.specs.Places.{Place}
 use Rattle.iso_locklist.proofs.Apart.{turned}
 use Rattle.iso_locklist.proofs.Lists.{any_map, hold_of_name, is_hold, seek, waits_of_name}
 use Rattle.iso_locklist.proofs.Names.{name_same}
@@ -202,35 +202,35 @@ known ps ns moved =
     all_append T (map (λ h. h.name) (holds_in ps)) (map (λ x. x.name) (waits_in ps)) (holds_known T ps all) (waits_known T ps all)
 
 -- places in the order of their names, each name once
-module _ (head : Head) (ps : List Place) (rs : List (Bor Place)) (apart : are_apart (names ps) ≡ true) (moved : IsPermutation ps (map (λ p. p.now) rs))
-    (up : IsSortedBy (λ p q. name_lt head p.now.name q.now.name) rs) where
+module _ (head : Head) (ps : List Place) (rs : List (Bor Name)) (apart : are_apart (names ps) ≡ true) (moved : IsPermutation ps (map (λ p. place p.now (line_at ps p.now)) rs))
+    (up : IsSortedBy (λ p q. name_lt head p.now q.now) rs) where
   abbrev qs : List Place
-  qs = map (λ (p : Bor Place). p.now) rs
+  qs = map (λ (p : Bor Name). place p.now (line_at ps p.now)) rs
 
   abbrev pub in_order : List Name
-  in_order = map (λ (p : Bor Place). p.now.name) rs
+  in_order = map (λ (p : Bor Name). p.now) rs
 
   same : names qs ≡ in_order
-  same = map_map (λ (p : Place). p.name) (λ (p : Bor Place). p.now) rs
+  same = map_map (λ (p : Place). p.name) (λ (p : Bor Name). place p.now (line_at ps p.now)) rs
 
   names_moved : IsPermutation (names ps) (names qs)
   names_moved = IsPermutation-map (λ (p : Place). p.name) ps qs moved
 
   pub rising : IsStrictlySortedBy (name_cmp head) in_order
   rising =
-      rises head (λ (p : Bor Place). p.now.name) rs up
+      rises head (λ (p : Bor Name). p.now) rs up
       (subst (λ (l : List Name). IsDistinct name_eq l) same (IsDistinct-IsPermutation name_eq flips (names ps) (names qs) names_moved (apart_distinct (names ps) apart)))
 
   pub used_known : AllByRecursion (λ (x : Name). has in_order x ≡ true) (used (holds_in ps) (waits_in ps))
   used_known = subst (λ (l : List Name). AllByRecursion (λ (x : Name). has l x ≡ true) (used (holds_in ps) (waits_in ps))) same (known ps (names qs) names_moved)
 
   -- their lines are the snapshot
-  pub snapshot_is : flat_map (λ p. lines_of head p.now) rs ≡ snapshot head (holds_in ps) (waits_in ps)
+  pub snapshot_is : flat_map (λ p. lines_of head (place p.now (line_at ps p.now))) rs ≡ snapshot head (holds_in ps) (waits_in ps)
   snapshot_is =
       let lines = lines_at head (holds_in ps) (waits_in ps) in
       let all = from_index (λ (p : Place). lines_of head p ≡ lines p.name) qs
       (All-permutation (λ (p : Place). lines_of head p ≡ lines p.name) ps qs moved (by_index (λ (p : Place). lines_of head p ≡ lines p.name) ps (place_lines head ps apart))) in
-      sym (flat_map_map (lines_of head) (λ (p : Bor Place). p.now) rs)
+      sym (flat_map_map (lines_of head) (λ (p : Bor Name). place p.now (line_at ps p.now)) rs)
       ∙ flat_like (lines_of head) lines (λ (p : Place). p.name) qs all
       ∙ sym (flat_kept lines (has (used (holds_in ps) (waits_in ps))) (names qs) (λ n none. unused head (holds_in ps) (waits_in ps) n none))
       ∙ ap (flat_map lines)

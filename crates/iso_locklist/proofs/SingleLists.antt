@@ -3,7 +3,7 @@ use Rattle.std.proofs.Common.{◌≡◌, Bool, true, false, ◌&&◌, List, [], 
 use Rattle.std.specs.Prelude.{count_by, filter}
 use Rattle.iso_locklist.specs.Lists.{IsSingle, IsSingleIn, holds_in, named_hold, waits_in}
 use Rattle.iso_locklist.specs.Places.{are_apart, line_at, names, one}
-use Rattle.iso_locklist.specs.declared.places.Place.{Place}
+use Rattle.iso_locklist.specs.Places.{Place}
 use Rattle.iso_locklist.proofs.Lists.{holds_of_name, is_hold}
 use Rattle.iso_locklist.proofs.Settles.{gone, kept}
 use Rattle.iso_locklist.proofs.Taken.{count_cons, count_map}

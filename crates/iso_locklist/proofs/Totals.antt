@@ -5,7 +5,7 @@ use Rattle.std.proofs.lemmas.Bool.{le-ltb}
 use Rattle.std.proofs.lemmas.List.FromFn.{sum_by-map-range_with_len_more}
 use Rattle.iso_locklist.specs.Lists.{IsHeads, IsSingle, holds_in, waits_in}
 use Rattle.iso_locklist.specs.Places.{all_taken, are_apart, names, taken, taken_below}
-use Rattle.iso_locklist.specs.declared.places.Place.{Place}
+use Rattle.iso_locklist.specs.Places.{Place}
 use Rattle.iso_locklist.proofs.Taken.{taken_in_lists}
 use Rattle.iso_queue.specs.Limits as limits
 use Rattle.iso_types.specs.declared.head.Head.{Head}

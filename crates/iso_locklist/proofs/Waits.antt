@@ -7,7 +7,7 @@ use Rattle.std.proofs.lemmas.Bool.{eqb-true}
 use Rattle.std.proofs.lemmas.List.Elements.{filter-append}
 use Rattle.iso_locklist.specs.Lists.{holds_in, named_hold, named_wait, waits_in}
 use Rattle.iso_locklist.specs.Places.{are_apart, is_grantable_in, line_at, names, wait_in}
-use Rattle.iso_locklist.specs.declared.places.Place.{Place}
+use Rattle.iso_locklist.specs.Places.{Place}
 use Rattle.iso_locklist.proofs.Lists.{any_map, any_seek, holds_of_name, kept, left, name_is}
 use Rattle.iso_locklist.proofs.Taken.{AllLines, absent, all_lines, wait_is, waits_more}
 use Rattle.iso_modes.specs.Modes.{compatible}

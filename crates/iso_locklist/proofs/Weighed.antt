@@ -4,10 +4,11 @@ use Rattle.std.specs.Option.{option_map_or}
 use Rattle.std.specs.Prelude.{◌||◌, count_by, find, is_some, Option, None, Some}
 use Rattle.iso_locklist.specs.Holding.{AreLines}
 use Rattle.iso_locklist.specs.Lists.{IsSingleIn, holds_in, named_hold}
-use Rattle.iso_locklist.specs.Places.{are_apart, is_in, line_at, names, one, taken}
-use Rattle.iso_locklist.specs.Weights.{is_long, is_weighed}
-use Rattle.iso_locklist.specs.declared.places.Place.{Place}
-use Rattle.iso_locklist.specs.declared.places.Scope.TheVariants.{OnTable}
+use Rattle.iso_locklist.specs.Places.{are_apart, line_at, names, one, taken}
+use Rattle.iso_locklist.specs.Weights.{is_weighed}
+use Rattle.iso_locklist.specs.Places.{Place}
+use Rattle.iso_lines.specs.Tasks.{is_within}
+use Rattle.iso_lines.specs.Weighs.{is_long}
 use Rattle.iso_locklist.proofs.Alike.{alike_count}
 use Rattle.iso_locklist.proofs.Holding.{holds_like, single_here}
 use Rattle.iso_locklist.proofs.Lists.{table_like}
@@ -67,8 +68,8 @@ abbrev weighs : Head → Conn → TableId → locks.Hold → Bool
 weighs head c t h = conn_eq h.conn c && (is_on head t h.name && not (is_brief h.term))
 
 module _ (head : Head) (ts : List TableId) (tables : ts ≡ map (λ (d : IndexDef). d.table) head.indexes) (c : Conn) (t : TableId) where
-  inside : (p : Place) → is_in ts (OnTable t) p.name ≡ is_on head t p.name
-  inside p = ap (λ (us : List TableId). is_in us (OnTable t) p.name) tables ∙ ap (λ (o : Option TableId). option_map_or (λ u. table_eq u t) o false) (table_like head p.name)
+  inside : (p : Place) → is_within ts t p.name ≡ is_on head t p.name
+  inside p = ap (λ (us : List TableId). is_within us t p.name) tables ∙ ap (λ (o : Option TableId). option_map_or (λ u. table_eq u t) o false) (table_like head p.name)
 
   place_counts : (p : Place) → count_by (λ (h : Hold). conn_eq h.conn c) p.queue.holders ≤ 1
       → count_by (weighs head c t) (map (named_hold p.name) p.queue.holders) ≡ one (is_weighed ts c t p)
@@ -116,6 +117,6 @@ weight_few ts c t (p ∷ ps) =
       arith,
       count_cons (is_weighed ts c t) p ps,
       count_cons (λ (r : Place). is_touched r.queue c) p ps,
-      touched_more (is_in ts (OnTable t) p.name) (is_waiter p.queue.waiters c) (hold_of p.queue.holders c),
+      touched_more (is_within ts t p.name) (is_waiter p.queue.waiters c) (hold_of p.queue.holders c),
       weight_few ts c t ps,
     )

@@ -3,11 +3,7 @@
 use Rattle.std.specs.List.{list_any}
 use Rattle.std.specs.Option.{option_and_then, option_map, option_map_or}
 use Rattle.std.specs.Prelude.{◌≡◌, ◌<◌, ◌++◌, length, slice_get, slice_set, slice_index, map, ℕ, zero, suc, ◌+◌, Bool, true, false, not, ◌&&◌, List, [], ◌∷◌, if◌then◌else◌, nat_lt, count_by, find, Option, None, Some, Result, Ok, Err}
-use Rattle.iso_locklist.specs.declared.places.Change.{Change}
-use Rattle.iso_locklist.specs.declared.places.Change.TheVariants.{Cancel, Release, Settle}
-use Rattle.iso_locklist.specs.declared.places.Place.{Place}
-use Rattle.iso_locklist.specs.declared.places.Scope.{Scope}
-use Rattle.iso_locklist.specs.declared.places.Scope.TheVariants.{Beside, Each, OnTable}
+use Rattle.iso_lines.specs.Named.{Named, line_under}
 use Rattle.iso_locklist.specs.declared.room.LockFault.{LockFault}
 use Rattle.iso_locklist.specs.declared.room.Room.{Room}
 use Rattle.iso_locklist.specs.declared.room.Room.TheVariants.{AtCapacity, AtShare, Free}
@@ -20,6 +16,14 @@ use Rattle.iso_types.specs.declared.value.Conn.{Conn}
 use Rattle.iso_types.specs.declared.value.Name.{Name}
 use Rattle.iso_types.specs.declared.value.Name.TheVariants.{End, Key, Row, Table}
 use Rattle.iso_types.specs.declared.value.TableId.{TableId}
+
+-- a name with its holders and waiters
+pub record Place : Type 0 where
+  pub name : Name
+  pub queue : Line
+
+abbrev pub place : Name → Line → Place
+place n q = record { name = n; queue = q }
 
 -- the lock list: its places, the share of one connection, the slots of all, and the table of each index
 pub record Ledger : Type 0 where
@@ -36,22 +40,6 @@ nobody = record { holders = []; waiters = [] }
 abbrev pub line_at : List Place → Name → Line
 line_at [] n = nobody
 line_at (p ∷ ps) n = if name_eq p.name n then p.queue else line_at ps n
-
--- the first place of the name gets the line; where there is none, one is added
-abbrev pub updated : List Place → Name → Line → List Place
-updated [] n q = record { name = n; queue = q } ∷ []
-updated (p ∷ ps) n q = if name_eq p.name n then record { name = p.name; queue = q } ∷ ps else p ∷ updated ps n q
-
--- the place at an index is the name's: a line put there is the name's new line
-pub record IsPlaceOf (ps : List Place) (n : Name) (i : ℕ) (p : Place) : Type 0 where
-  pub within : i < length ps
-  pub set : (q : Line) → slice_set ps i (record { name = p.name; queue = q }) ≡ updated ps n q
-  pub line : line_at ps n ≡ p.queue
-
--- no place is the name's: a place that is added is its first
-pub record IsAbsent (ps : List Place) (n : Name) : Type 0 where
-  pub pushed : (q : Line) → ps ++ record { name = n; queue = q } ∷ [] ≡ updated ps n q
-  pub line : line_at ps n ≡ nobody
 
 -- the number of names that the connection holds or awaits
 abbrev pub taken : List Place → Conn → ℕ
@@ -70,12 +58,6 @@ all_taken ps = taken_below ps 32
 abbrev pub one : Bool → ℕ
 one b = if b then 1 else 0
 
--- the kept counts are those of the places
-pub record IsCounted (ps : List Place) (counts : List ℕ) (total : ℕ) : Type 0 where
-  pub size : length counts ≡ 32
-  pub each : (c : ℕ) → c < 32 → slice_index counts c ≡ taken ps (record { 0 = c })
-  pub all : total ≡ all_taken ps
-
 -- the names of the places
 abbrev pub names : List Place → List Name
 names ps = map (λ p. p.name) ps
@@ -85,10 +67,13 @@ abbrev pub are_apart : List Name → Bool
 are_apart [] = true
 are_apart (n ∷ ns) = not (list_any (λ m. name_eq m n) ns) && are_apart ns
 
--- the kept counts are those of the places, and each name has one place
-pub record IsLedger (ps : List Place) (counts : List ℕ) (total : ℕ) : Type 0 where
-  pub counted : IsCounted ps counts total
+-- each name has one place
+pub record IsLedger (ps : List Place) : Type 0 where
   pub apart : are_apart (names ps) ≡ true
+
+-- the names of a register, each with its line
+abbrev pub places_in : Named → List Place
+places_in l = map (λ e. place e.0 (line_under l.slots e.1)) l.index
 
 -- whether a need of that many more is at its limit: the share first, then the slots
 abbrev pub room_by : ℕ → ℕ → ℕ → ℕ → ℕ → Room
@@ -119,32 +104,12 @@ cancelled q c = record { holders = q.holders; waiters = unqueued c q.waiters }
 abbrev pub is_spared : Option Name → Name → Bool
 is_spared spare n = option_map_or (name_eq n) spare false
 
--- the name's line after the change of the connection's part in it
-abbrev pub changed : Change → Conn → Name → Line → Line
-changed Release c n q = released q c
-changed Cancel c n q = cancelled q c
-changed (Settle spare) c n q = settled q c (is_spared spare n)
-
 -- the table of a row name or key name
 abbrev pub table_in : List TableId → Name → Option TableId
 table_in index_tables (Table t) = None
 table_in index_tables (Row t r) = Some t
 table_in index_tables (Key i v) = slice_get index_tables i.0
 table_in index_tables (End i) = slice_get index_tables i.0
-
--- the name's line is one of those that are changed
-abbrev pub is_in : List TableId → Scope → Name → Bool
-is_in index_tables Each n = true
-is_in index_tables (OnTable t) n = option_map_or (λ u. table_eq u t) (table_in index_tables n) false
-is_in index_tables (Beside m) n = not (name_eq m n)
-
--- the name's line after the change, where it is one of those
-abbrev pub changed_in : List TableId → Scope → Change → Conn → Name → Line → Line
-changed_in index_tables scope change c n q = if is_in index_tables scope n then changed change c n q else q
-
--- each name's line changed
-abbrev pub each_line : (Name → Line → Line) → List Place → List Place
-each_line f ps = map (λ p. record { name = p.name; queue = f p.name p.queue }) ps
 
 -- the connection's wait has no edge
 abbrev pub is_grantable_in : List Place → Conn → Bool

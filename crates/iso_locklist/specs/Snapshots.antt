@@ -1,6 +1,6 @@
 -- What a snapshot lists of one place. The states are those of Db2 LUW, 'MON_GET_LOCKS'; the order is this project's own.
 use Rattle.std.specs.Prelude.{List, ◌++◌, map, filter_map, if◌then◌else◌}
-use Rattle.iso_locklist.specs.declared.places.Place.{Place}
+use Rattle.iso_locklist.specs.Places.{Place}
 use Rattle.iso_modes.specs.declared.LockState.TheVariants.{Converting, Granted, Waiting}
 use Rattle.iso_queue.specs.Lines.{hold_of, is_holder}
 use Rattle.iso_queue.specs.declared.LockLine.{LockLine}

@@ -8,8 +8,7 @@ mod room;
 mod snapshot;
 #[cfg(test)]
 mod tests;
-mod weights;
 
 pub use list::LockList;
-pub use places::{Asking, Place};
+pub use places::Asking;
 pub use room::{LockFault, Room};

@@ -1,10 +1,10 @@
-ghost use Rattle.std.specs.Prelude.{drop, List, ◌≡◌, ◌<◌, ◌≤◌, [], IfOk, OnOk, OnErr, false, if◌then◌else◌, None, length, map, slice_index_or, slice_set};
+ghost use Rattle.std.specs.Prelude.{drop, List, ◌≡◌, ◌<◌, ◌≤◌, [], IfOk, IfSome, IfNone, OnOk, OnErr, false, true, if◌then◌else◌, length, map};
 ghost use Rattle.iso_locklist.specs.Holding.{AreAsked, AreNew, AreOfHead, IsNew, all_added, HasTables, LocksAre, WaitsOnce, room_asked, room_in_lists, settled_beside};
 ghost use Rattle.iso_locklist.specs.Lists.{asked_for, IsSingleIn, claimed_holds, claimed_waits, grants_in, named_hold};
-ghost use Rattle.iso_locklist.specs.Places.{IsLimited, IsSameLimits, all_taken, cancelled, each_line, edges_in, is_covered, is_grantable_in, is_spared, line_at, released, room_for, room_to_ask, taken, wait_in, changed, changed_in};
+ghost use Rattle.iso_locklist.specs.Places.{IsLimited, IsSameLimits, all_taken, are_apart, cancelled, is_covered, is_grantable_in, is_spared, line_at, names, need_of, nobody, released, room_for, room_to_ask, taken};
 ghost use Rattle.iso_locklist.specs.Weights.{weight_in};
-ghost use Rattle.iso_locklist.specs.declared.places.Place.{Place as Entry};
-ghost use Rattle.iso_queue.specs.Lines.{asked, bits_of, claimed, hold_of, is_granted, is_guarded_against, is_used, settled};
+ghost use Rattle.iso_lines.specs.Tasks.{worked};
+ghost use Rattle.iso_queue.specs.Lines.{asked, bits_of, claimed, edges_of, has_mode, hold_of, is_granted, is_guarded_against, is_used, is_waiter, settled, waiter_of};
 ghost use Rattle.iso_queue.specs.Locks.{Hold as Held, added, collapsed, dropped, freed, hold_on, others_guard, without_briefs};
 ghost use Rattle.iso_queue.specs.Limits as limits;
 ghost use Rattle.iso_modes.specs.declared.Term.TheVariants as Terms;
@@ -21,27 +21,22 @@ ghost use Rattle.iso_types.specs.declared.value.Name.{Name as Other};
 ghost use Rattle.iso_types.specs.Head.{lock_share, lock_slots};
 ghost use Rattle.iso_types.specs.declared.head.Head.{Head as Declared};
 
-use crate::covering::{index_tables, table_of};
-use crate::places::{
-    Asking, Change, Place, Scope, ask, change_at, claim_all, find_place, find_wait, holds_mode,
-    is_in, need, queue_of, would_grant,
-};
+use crate::covering::index_tables;
+use crate::places::{Asking, same_mode};
 use crate::room::{LockFault, Room, room_beside, room_in};
 use crate::snapshot::{in_order, list_lines};
-use crate::weights::weight;
-use iso_modes::{Mode, Term, covers};
-use iso_queue::{Asked, Claimed, Hold, LockLine};
+use iso_lines::{Change, Register, Task, table_of};
+use iso_modes::{Mode, Term, covers, joined};
+use iso_queue::{Asked, Claimed, Hold, LockLine, Queue};
 use iso_types::{Conn, Edges, Head, Items, Memory, Name, TableId};
 use std::alloc::Global;
 use std::marker::Model;
 
-/// All lock names that somebody holds or awaits, each with its queue, and how many each of at most 32 connections has.
-/// To find a name costs the number of names.
+/// All lock names that somebody holds or awaits, each with its queue, and the names of each of 32 connections. To find a
+/// name costs the same however many there are; no call but `snapshot` goes over the names of others.
 #[derive(Drop)]
 pub struct LockList {
-    places: Vec<Place>,
-    counts: [u32; 32],
-    total: u32,
+    register: Register,
     share: u32,
     slots: u32,
     index_tables: Items<TableId>,
@@ -49,13 +44,13 @@ pub struct LockList {
 }
 
 impl Model for LockList {
-    ghost use Rattle.iso_locklist.specs.Places.{IsLedger, Ledger};
+    ghost use Rattle.iso_locklist.specs.Places.{IsLedger, Ledger, places_in};
 
     ghost Value = { Ledger };
 
-    ghost view = { λ l. record { places = l.places.items; share = l.share; slots = l.slots; index_tables = l.index_tables } };
+    ghost view = { λ l. record { places = places_in l.register.lines; share = l.share; slots = l.slots; index_tables = l.index_tables } };
 
-    ghost invariant = { λ l. IsLedger l.places.items l.counts l.total };
+    ghost invariant = { λ l. IsLedger (places_in l.register.lines) };
 }
 
 impl LockList {
@@ -70,10 +65,10 @@ impl LockList {
         ensures slots { IfOk result (λ l. l.slots ≡ lock_slots head.now.config) }
         ensures index_tables { IfOk result (λ l. l.index_tables ≡ map (λ d. d.table) head.now.indexes) }
     {
+        let register = Register::new(alloc)?;
+        register.names_once();
         Ok(LockList {
-            places: Vec::new(alloc),
-            counts: [0; 32],
-            total: 0,
+            register,
             share: head.config.share(),
             slots: head.config.slots(),
             index_tables: index_tables(alloc, head.indexes.as_slice())?,
@@ -86,7 +81,7 @@ impl LockList {
         requires { conn.0 < 32 }
         ensures { (hs : List Held) (xs : List Awaiting) → LocksAre hs xs self.now → IsSingleIn hs xs conn → result ≡ limits.taken hs xs conn }
     {
-        let _ = &self.places;
+        let _ = &self.register;
         self.count_at(conn)
     }
 
@@ -94,7 +89,7 @@ impl LockList {
     pub fn total(&self) -> u32
         ensures { (head : Declared) (hs : List Held) (xs : List Awaiting) → LocksAre hs xs self.now → AreOfHead head hs xs → result ≡ limits.all_taken head hs xs }
     {
-        let _ = &self.places;
+        let _ = &self.register;
         self.total_at()
     }
 
@@ -103,85 +98,92 @@ impl LockList {
         requires { conn.0 < 32 }
         ensures { (head : Declared) (hs : List Held) (xs : List Awaiting) → LocksAre hs xs self.now → AreOfHead head hs xs → result ≡ room_in_lists head self.now hs xs conn more }
     {
-        let _ = &self.places;
+        let _ = &self.register;
         self.room_at(conn, more)
     }
 
     /// How many holds the connection has on the rows and keys of the table that are not Brief. Its cost is the number of
-    /// names, and of all who hold them. Db2 LUW, 'Lock escalation'; that Brief holds do not count is this project's own.
+    /// its names. Db2 LUW, 'Lock escalation'; that Brief holds do not count is this project's own.
     pub fn weight(&self, conn: Conn, table: TableId) -> u32
         requires { conn.0 < 32 }
         ensures { (head : Declared) (hs : List Held) (xs : List Awaiting) → HasTables head self.now → LocksAre hs xs self.now → IsSingleIn hs xs conn → result ≡ limits.weight head hs conn table }
     {
-        let _ = &self.places;
+        let _ = &self.register;
         self.weight_at(conn, table)
     }
 
-    /// The connection's hold on the name. Its cost is the number of names, and of those who hold the name.
+    /// The connection's hold on the name. Its cost is the number of those who hold the name.
     pub fn held(&self, conn: Conn, name: Name) -> Option<Hold>
         ensures { (hs : List Held) (xs : List Awaiting) → LocksAre hs xs self.now → option_map (named_hold name) result ≡ hold_on hs conn name }
     {
         self.hold_at(conn, &name)
     }
 
-    /// Whether a request for the mode would be granted without a wait. Its cost is the number of names, and of those who
-    /// hold or await the name.
+    /// Whether a request for the mode would be granted without a wait. Its cost is the number of those who hold or
+    /// await the name.
     pub fn would_grant(&self, conn: Conn, name: Name, mode: Mode) -> bool
         ensures { (hs : List Held) (xs : List Awaiting) → LocksAre hs xs self.now → is_waiting xs conn ≡ false → result ≡ grants_in hs xs conn name mode }
     {
-        let _ = &self.places;
+        let _ = &self.register;
         self.grants_at(conn, &name, mode)
     }
 
     /// Whether the connection's hold on the name's table covers a request for the mode, which then takes no lock. Nothing
-    /// covers a request on a table. Its cost is the number of names, and of those who hold the table.
+    /// covers a request on a table. Its cost is the number of those who hold the table.
     pub fn covered(&self, conn: Conn, name: Name, mode: Mode) -> bool
         ensures { (head : Declared) (hs : List Held) (xs : List Awaiting) → HasTables head self.now → LocksAre hs xs self.now → result ≡ locks.is_covered head hs conn name mode }
     {
-        let _ = &self.places;
+        let _ = &self.register;
         self.is_covered_at(conn, &name, mode)
     }
 
-    /// The name and the target of the connection's wait. Its cost is the number of names and of all who await them.
+    /// The name and the target of the connection's wait. Its cost is the number of those who hold or await the name.
     pub fn waits(&self, conn: Conn) -> Option<(Name, Mode)>
         ensures { (hs : List Held) (xs : List Awaiting) → LocksAre hs xs self.now → WaitsOnce xs conn → result ≡ option_map (λ x. (x.name, x.target)) (wait_of xs conn) }
     {
-        let _ = &self.places;
-        self.wait_at(conn)
+        match self.awaited_at(conn) {
+            Some(name) => match self.target_at(conn, name) {
+                Some(target) => Some((*name, target)),
+                None => None,
+            },
+            None => None,
+        }
     }
 
-    /// Whether the connection waits, and its wait has no edge: a claim is granted then. Its cost is the number of names, and
-    /// of those who hold or await the name on which it waits.
+    /// Whether the connection waits, and its wait has no edge: a claim is granted then. Its cost is the number of
+    /// those who hold or await the name on which it waits.
     pub fn can_claim(&self, conn: Conn) -> bool
         ensures { (hs : List Held) (xs : List Awaiting) → LocksAre hs xs self.now → WaitsOnce xs conn → result ≡ queues.is_grantable hs xs conn }
     {
-        let _ = &self.places;
+        let _ = &self.register;
         self.can_claim_at(conn)
     }
 
     /// The connections to which the connection's wait has an edge: each other holder of the name in a mode that does not
-    /// go with the target, and each earlier waiter. Its cost is the number of names and of all who await them, and 32 times
-    /// the number of those who hold or await the name.
+    /// go with the target, and each earlier waiter. Its cost is 32 times the number of those who hold or await the
+    /// name.
     pub fn edges(&self, conn: Conn) -> Edges
         ensures { (hs : List Held) (xs : List Awaiting) → LocksAre hs xs self.now → WaitsOnce xs conn → result.0 ≡ option_map_or (λ x. bits_of (λ d. list_any (conn_eq d) (queues.blockers hs xs x)) 32) (wait_of xs conn) 0 }
     {
-        let _ = &self.places;
-        self.edges_at(conn)
+        let _ = &self.register;
+        match self.awaited_at(conn) {
+            Some(name) => self.edges_at(conn, name),
+            None => Edges(0),
+        }
     }
 
-    /// Whether another connection holds S or NW on the name. Its cost is the number of names, and of those who hold the
-    /// name.
+    /// Whether another connection holds S or NW on the name. Its cost is the number of those who hold the name.
     pub fn others_hold(&self, conn: Conn, name: Name) -> bool
         ensures { (hs : List Held) (xs : List Awaiting) → LocksAre hs xs self.now → result ≡ others_guard hs conn name }
     {
         self.is_guarded_at(conn, &name)
     }
 
-    /// Whether somebody holds or awaits the name. Its cost is the number of names.
+    /// Whether somebody holds or awaits the name. Its cost is constant.
     pub fn in_use(&self, name: Name) -> bool
         ensures { result ≡ is_used (line_at self.now.places name) }
     {
-        match queue_of(&self.places, &name) {
+        match self.queue_of(&name) {
             Some(queue) => queue.in_use(),
             None => false,
         }
@@ -189,8 +191,8 @@ impl LockList {
 
     /// Requests the mode on the name. `Granted`: the connection holds it, with what it held before. `Queued`: it waits.
     /// Its need is a slot, or none where it holds or awaits the name. `AtShare`, `AtCapacity`: the need is at that limit,
-    /// whatever the queue; never where it holds the mode already. `Memory`: want of memory. After a fault nothing changed. Its cost is the number of names, and at most the product of
-    /// those who hold and those who await the name.
+    /// whatever the queue; never where it holds the mode already. `Memory`: want of memory. After a fault nothing changed. Its
+    /// cost is at most the product of those who hold and those who await the name.
     pub fn request(
         &mut self,
         conn: Conn,
@@ -205,7 +207,7 @@ impl LockList {
         ensures limits { IsSameLimits self.new self.old }
         ensures err { OnErr result (self.new ≡ self.old) }
     {
-        let _ = &self.places;
+        let _ = &self.register;
         self.request_at(conn, &name, mode, term)
     }
 
@@ -226,20 +228,18 @@ impl LockList {
         ensures limits { IsSameLimits self.new self.old }
         ensures err { OnErr result (self.new ≡ self.old) }
     {
-        let at = conn.0 as usize;
-        let need = need(&self.places, conn, name);
-        let room = room_in(self.counts[at], self.total, self.share, self.slots, need);
-        match room_beside(holds_mode(&self.places, conn, name, mode), room) {
+        let room = self.room_at(conn, self.need_at(conn, name));
+        match room_beside(self.holds_mode(conn, name, mode), room) {
             Room::AtShare => return Err(LockFault::AtShare),
             Room::AtCapacity => return Err(LockFault::AtCapacity),
             Room::Free => {}
         }
-        let asked = match ask(&mut self.places, self.alloc, conn, name, mode, term) {
+        let _ = self.register.total();
+        let asked = match self.register.request(conn, name, mode, term) {
             Ok(asked) => asked,
             Err(_) => return Err(LockFault::Memory),
         };
-        self.counts[at] += need;
-        self.total += need;
+        self.register.names_once();
         Ok(asked)
     }
 
@@ -297,8 +297,8 @@ impl LockList {
         }
     }
 
-    /// The connection's hold on the name goes. It takes no memory. Its cost is the number of names, and of those who hold
-    /// or await the name.
+    /// The connection's hold on the name goes. It takes no memory. Its cost is the number of those who hold or await the
+    /// name.
     pub fn release(&mut self, conn: Conn, name: Name)
         requires { conn.0 < 32 }
         ensures line { line_at self.new.places name ≡ released (line_at self.old.places name) conn }
@@ -306,31 +306,30 @@ impl LockList {
         ensures lists { (hs : List Held) (xs : List Awaiting) → LocksAre hs xs self.old → LocksAre (freed conn name hs) xs self.new }
         ensures limits { IsSameLimits self.new self.old }
     {
-        if let Some(at) = find_place(&self.places, &name) {
-            self.change_at(at, conn, &Change::Release);
-        }
+        self.register.change(conn, &name, Change::Release);
+        self.register.names_once();
     }
 
-    /// The connection's hold on each name goes; its wait stays. It takes no memory. Its cost is the number of names and
-    /// of all who hold or await them.
+    /// The connection's hold on each name goes; its wait stays. It takes no memory. Its cost is the number of its names
+    /// and of those who hold or await them.
     pub fn release_all(&mut self, conn: Conn)
         requires { conn.0 < 32 }
         ensures lines { (n : Other) → line_at self.new.places n ≡ released (line_at self.old.places n) conn }
         ensures lists { (hs : List Held) (xs : List Awaiting) → LocksAre hs xs self.old → LocksAre (dropped conn hs) xs self.new }
         ensures limits { IsSameLimits self.new self.old }
     {
-        self.change_all(conn, &Change::Release, &Scope::Each);
+        self.work(conn, &Task::Release);
     }
 
     /// Each Fresh hold of the connection becomes Kept, but on the name that is spared, and then its Brief holds go; all else
-    /// stays. It takes no memory. Its cost is the number of names and of all who hold or await them.
+    /// stays. It takes no memory. Its cost is the number of the names on which its hold is Fresh or Brief.
     pub fn settle(&mut self, conn: Conn, spare: Option<Name>)
         requires { conn.0 < 32 }
         ensures lines { (n : Other) → line_at self.new.places n ≡ settled (line_at self.old.places n) conn (is_spared spare n) }
         ensures lists { (hs : List Held) (xs : List Awaiting) → LocksAre hs xs self.old → LocksAre (without_briefs hs conn (locks.settled conn spare hs)) xs self.new }
         ensures limits { IsSameLimits self.new self.old }
     {
-        self.change_all(conn, &Change::Settle(spare), &Scope::Each);
+        self.work(conn, &Task::Settle(spare, None));
     }
 
     /// The same, but for a hold that was placed in this step on a name that the connection did not hold: it stays as it is.
@@ -339,33 +338,33 @@ impl LockList {
         ensures lists { (hs : List Held) (xs : List Awaiting) → LocksAre hs xs self.old → LocksAre (settled_beside conn spare placed hs) xs self.new }
         ensures limits { IsSameLimits self.new self.old }
     {
-        self.change_all(conn, &Change::Settle(spare), &Scope::Beside(placed));
+        self.work(conn, &Task::Settle(spare, Some(placed)));
     }
 
     /// The connection's holds on the rows and keys of the table go; its hold on the table stays, and so does its wait. It
-    /// takes no memory. Its cost is the number of names and of all who hold or await them. Db2 LUW, 'Lock escalation'.
+    /// takes no memory. Its cost is the number of its names and of those who hold or await them. Db2 LUW, 'Lock escalation'.
     pub fn collapse(&mut self, conn: Conn, table: TableId)
         requires { conn.0 < 32 }
         ensures lists { (head : Declared) (hs : List Held) (xs : List Awaiting) → HasTables head self.old → LocksAre hs xs self.old → LocksAre (collapsed head conn table hs) xs self.new }
         ensures limits { IsSameLimits self.new self.old }
     {
-        self.change_all(conn, &Change::Release, &Scope::OnTable(table));
+        self.work(conn, &Task::Collapse(table));
     }
 
     /// The connection's wait goes, on whatever name it waits; its holds stay. It takes no memory. Its cost is the number
-    /// of names and of all who hold or await them.
+    /// of those who hold or await the name on which it waits.
     pub fn cancel(&mut self, conn: Conn)
         requires { conn.0 < 32 }
         ensures lines { (n : Other) → line_at self.new.places n ≡ cancelled (line_at self.old.places n) conn }
         ensures lists { (hs : List Held) (xs : List Awaiting) → LocksAre hs xs self.old → LocksAre hs (unqueued conn xs) self.new }
         ensures limits { IsSameLimits self.new self.old }
     {
-        self.change_all(conn, &Change::Cancel, &Scope::Each);
+        self.work(conn, &Task::Cancel);
     }
 
     /// Grants the connection's wait where it has no edge, with what the connection held before; else nothing changes.
     /// `NotYet`: the wait has an edge, or the connection does not wait. It takes no memory. Its cost is the number of
-    /// names and of all who await them, and of those who hold the name on which it waits.
+    /// those who hold or await the name on which it waits.
     pub fn claim(&mut self, conn: Conn) -> Claimed
         ensures answer { result ≡ (if is_grantable_in self.old.places conn then Answer.Granted else Answer.NotYet) }
         ensures lines { (n : Other) → line_at self.new.places n ≡ claimed (line_at self.old.places n) conn }
@@ -373,7 +372,12 @@ impl LockList {
         ensures told { (hs : List Held) (xs : List Awaiting) → LocksAre hs xs self.old → WaitsOnce xs conn → result ≡ (if queues.is_grantable hs xs conn then Answer.Granted else Answer.NotYet) }
         ensures limits { IsSameLimits self.new self.old }
     {
-        claim_all(&mut self.places, conn)
+        if self.can_claim_at(conn) {
+            self.work(conn, &Task::Claim);
+            Claimed::Granted
+        } else {
+            Claimed::NotYet
+        }
     }
 
     /// The lines of all names that somebody holds or awaits, as a snapshot tells them: by table in order of declaration its
@@ -385,15 +389,16 @@ impl LockList {
         requires { length head.now.conns ≤ 32 }
         ensures { (hs : List Held) (xs : List Awaiting) → LocksAre hs xs self.now → IfOk result (λ lines. lines ≡ snapshot head.now hs xs) }
     {
-        let places = in_order(self.alloc, head, &self.places)?;
-        list_lines(self.alloc, head, &places)
+        let names = self.register.names(self.alloc)?;
+        let sorted = in_order(head, names)?;
+        list_lines(self.alloc, head, &self.register, &sorted)
     }
 
     /// The connection's hold in the line of the name.
     fn hold_at(&self, conn: Conn, name: &Name) -> Option<Hold>
         ensures { result ≡ hold_of (line_at self.now.places name.now).holders conn }
     {
-        match queue_of(&self.places, name) {
+        match self.queue_of(name) {
             Some(queue) => queue.hold(conn),
             None => None,
         }
@@ -403,27 +408,47 @@ impl LockList {
     fn is_guarded_at(&self, conn: Conn, name: &Name) -> bool
         ensures { result ≡ is_guarded_against (line_at self.now.places name.now).holders conn }
     {
-        match queue_of(&self.places, name) {
+        match self.queue_of(name) {
             Some(queue) => queue.is_guarded(conn),
             None => false,
         }
     }
 
-    /// The name and the target of the wait in the line where the connection stands.
-    fn wait_at(&self, conn: Conn) -> Option<(Name, Mode)>
-        ensures { result ≡ wait_in self.now.places conn }
+    /// The name's queue, or None where nobody holds or awaits it.
+    fn queue_of(&self, name: &Name) -> Option<&Queue>
+        ensures some { IfSome result (λ q. q.now ≡ line_at self.now.places name.now) }
+        ensures none { IfNone result (line_at self.now.places name.now ≡ nobody) }
     {
-        let place = find_wait(&self.places, conn)?;
-        let wait = place.queue.wait(conn)?;
-        Some((place.name, wait.target))
+        self.register.queue(name)
     }
 
-    /// The edges in the line where the connection waits.
-    fn edges_at(&self, conn: Conn) -> Edges
-        ensures { result.0 ≡ edges_in self.now.places conn }
+    /// A name in whose line the connection waits.
+    fn awaited_at(&self, conn: Conn) -> Option<&Name>
+        ensures some { IfSome result (λ n. is_waiter (line_at self.now.places n.now).waiters conn ≡ true) }
+        ensures none { IfNone result ((n : Other) → is_waiter (line_at self.now.places n).waiters conn ≡ false) }
     {
-        match find_wait(&self.places, conn) {
-            Some(place) => place.queue.edges(conn),
+        self.register.awaited(conn)
+    }
+
+    /// The target of the connection's wait in the line of the name.
+    fn target_at(&self, conn: Conn, name: &Name) -> Option<Mode>
+        ensures { result ≡ option_map (λ w. w.target) (waiter_of (line_at self.now.places name.now).waiters conn) }
+    {
+        match self.queue_of(name) {
+            Some(queue) => match queue.wait(conn) {
+                Some(wait) => Some(wait.target),
+                None => None,
+            },
+            None => None,
+        }
+    }
+
+    /// The edges of the connection's wait in the line of the name.
+    fn edges_at(&self, conn: Conn, name: &Name) -> Edges
+        ensures { result.0 ≡ edges_of (line_at self.now.places name.now) conn }
+    {
+        match self.queue_of(name) {
+            Some(queue) => queue.edges(conn),
             None => Edges(0),
         }
     }
@@ -443,16 +468,41 @@ impl LockList {
 
     /// Whether the connection waits in a line where its wait has no edge.
     fn can_claim_at(&self, conn: Conn) -> bool
-        ensures { result ≡ is_grantable_in self.now.places conn }
+        ensures within { result ≡ true → conn.0 < 32 }
+        ensures answer { result ≡ is_grantable_in self.now.places conn }
+        ensures told { (hs : List Held) (xs : List Awaiting) → LocksAre hs xs self.now → WaitsOnce xs conn → result ≡ queues.is_grantable hs xs conn }
     {
-        self.places.iter().any(|place| place.queue.can_claim(conn))
+        self.register.claimable(conn).is_some()
     }
 
     /// Whether a request for the mode is granted in the line of the name.
     fn grants_at(&self, conn: Conn, name: &Name, mode: Mode) -> bool
         ensures { result ≡ is_granted (line_at self.now.places name.now) conn mode }
     {
-        would_grant(&self.places, conn, name, mode)
+        match self.queue_of(name) {
+            Some(queue) => queue.would_grant(conn, mode),
+            None => true,
+        }
+    }
+
+    /// The slots that a request needs.
+    fn need_at(&self, conn: Conn, name: &Name) -> u32
+        ensures { result ≡ need_of self.now.places conn name.now }
+    {
+        match self.queue_of(name) {
+            Some(queue) => { if queue.touches(conn) { 0 } else { 1 } }
+            None => 1,
+        }
+    }
+
+    /// Whether the connection holds the mode already.
+    fn holds_mode(&self, conn: Conn, name: &Name, mode: Mode) -> bool
+        ensures { result ≡ has_mode (line_at self.now.places name.now).holders conn mode }
+    {
+        match self.hold_at(conn, name) {
+            Some(hold) => same_mode(joined(hold.mode, mode), hold.mode),
+            None => false,
+        }
     }
 
     /// How many lines the connection stands in.
@@ -460,7 +510,7 @@ impl LockList {
         requires { conn.0 < 32 }
         ensures { result ≡ taken self.now.places conn }
     {
-        self.counts[conn.0 as usize]
+        self.register.count(conn)
     }
 
     /// How many lines of the table's rows and keys have a hold of the connection that is not Brief.
@@ -468,16 +518,15 @@ impl LockList {
         requires { conn.0 < 32 }
         ensures { result ≡ weight_in self.now conn table }
     {
-        let weight = weight(&self.places, self.index_tables.as_slice(), conn, table);
-        prove!(weight <= self.counts[conn.0 as usize] as usize);
-        weight as u32
+        self.register
+            .weight(conn, self.index_tables.as_slice(), table)
     }
 
     /// The sum of the counts.
     fn total_at(&self) -> u32
         ensures { result ≡ all_taken self.now.places }
     {
-        self.total
+        self.register.total()
     }
 
     /// The room for so many more lines.
@@ -485,48 +534,19 @@ impl LockList {
         requires { conn.0 < 32 }
         ensures { result ≡ room_for self.now conn more }
     {
-        room_in(
-            self.counts[conn.0 as usize],
-            self.total,
-            self.share,
-            self.slots,
-            more,
-        )
+        let count = self.count_at(conn);
+        room_in(count, self.total_at(), self.share, self.slots, more)
     }
 
-    /// Changes the connection's part in the line at this place.
-    fn change_at(&mut self, at: usize, conn: Conn, change: &Change)
-        requires conn { conn.0 < 32 }
-        requires at { at < length self.old.places }
-        ensures places { (p : Entry) → p ≡ slice_index_or self.old.places at p → self.new.places ≡ slice_set self.old.places at (record { name = p.name; queue = changed change.now conn p.name p.queue }) }
-        ensures limits { IsSameLimits self.new self.old }
-    {
-        let freed = change_at(&mut self.places, at, conn, change);
-        self.counts[conn.0 as usize] -= freed;
-        self.total -= freed;
-    }
-
-    /// The same, where the line is one of those that are changed.
-    fn change_in(&mut self, at: usize, conn: Conn, change: &Change, scope: &Scope)
-        requires conn { conn.0 < 32 }
-        requires at { at < length self.old.places }
-        ensures places { (p : Entry) → p ≡ slice_index_or self.old.places at p → self.new.places ≡ slice_set self.old.places at (record { name = p.name; queue = changed_in self.old.index_tables scope.now change.now conn p.name p.queue }) }
-        ensures limits { IsSameLimits self.new self.old }
-    {
-        let changes = is_in(self.index_tables.as_slice(), scope, &self.places[at].name);
-        if changes {
-            self.change_at(at, conn, change);
-        }
-    }
-
-    /// Changes the connection's part in each of these lines.
-    fn change_all(&mut self, conn: Conn, change: &Change, scope: &Scope)
+    /// Does the task in the connection's part of each line.
+    fn work(&mut self, conn: Conn, task: &Task)
         requires { conn.0 < 32 }
-        ensures places { self.new.places ≡ each_line (changed_in self.old.index_tables scope.now change.now conn) self.old.places }
+        ensures lines { (n : Other) → line_at self.new.places n ≡ worked self.old.index_tables task.now conn n (line_at self.old.places n) }
+        ensures was_apart { are_apart (names self.old.places) ≡ true }
+        ensures is_apart { are_apart (names self.new.places) ≡ true }
         ensures limits { IsSameLimits self.new self.old }
     {
-        for at in 0..self.places.len() {
-            self.change_in(at, conn, change, scope);
-        }
+        self.register.work(conn, self.index_tables.as_slice(), task);
+        self.register.names_once();
     }
 }

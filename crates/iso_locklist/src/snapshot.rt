@@ -2,13 +2,15 @@ ghost use Rattle.std.specs.Prelude.{◌≡◌, ◌≤◌, ◌++◌, [], IfOk, On
 ghost use Rattle.std.specs.List.{cons_option, flat_map};
 ghost use Rattle.std.specs.List.Sorted.{IsPermutation, IsSortedBy};
 ghost use Rattle.std.specs.Ordering.{is_lt};
+ghost use Rattle.iso_lines.specs.Named.{line_of};
+ghost use Rattle.iso_locklist.specs.Places.{place};
 ghost use Rattle.iso_locklist.specs.Snapshots.{holder_line, holder_lines, lines_of, waiter_line};
 ghost use Rattle.iso_queue.specs.Lines.{hold_of};
 ghost use Rattle.iso_queue.specs.Snapshots.{name_lt, stands_before, table_number};
 
-use crate::places::Place;
+use iso_lines::Register;
 use iso_modes::LockState;
-use iso_queue::{Hold, LockLine, Waiter};
+use iso_queue::{Hold, LockLine, Queue, Waiter};
 use iso_types::{Conn, Head, Items, Memory, Name};
 use std::alloc::Global;
 use std::cmp::Ordering;
@@ -55,26 +57,21 @@ fn compare(head: &Head, a: &Name, b: &Name) -> Ordering
     table.cmp(&other).then(compare_in_table(a, b))
 }
 
-/// The places in the order of their names.
-pub fn in_order<'a>(
-    alloc: Global,
-    head: &Head,
-    places: &'a [Place],
-) -> Result<Vec<&'a Place>, Memory>
-    ensures places { IfOk result (λ sorted. IsPermutation places.now (map (λ p. p.now) sorted.items)) }
-    ensures order { IfOk result (λ sorted. IsSortedBy (λ p q. name_lt head.now p.now.name q.now.name) sorted.items) }
+/// The names in their order. `Memory`: want of memory.
+pub fn in_order<'a>(head: &Head, mut names: Vec<&'a Name>) -> Result<Vec<&'a Name>, Memory>
+    ensures names { IfOk result (λ sorted. IsPermutation names.entry.items sorted.items) }
+    ensures order { IfOk result (λ sorted. IsSortedBy (λ n m. name_lt head.now n.now m.now) sorted.items) }
 {
-    let mut sorted: Vec<&Place> = places.iter().collect(alloc)?;
-    sorted.sort_by(|a, b| compare(head, &a.name, &b.name))?;
-    Ok(sorted)
+    names.sort_by(|a, b| compare(head, a, b))?;
+    Ok(names)
 }
 
 /// A holder's line.
-fn line_of_holder(place: &Place, hold: Hold) -> LockLine
-    ensures { result ≡ holder_line place.now.name hold }
+fn line_of_holder(name: &Name, hold: Hold) -> LockLine
+    ensures { result ≡ holder_line name.now hold }
 {
     LockLine {
-        name: place.name,
+        name: *name,
         conn: hold.conn,
         mode: hold.mode,
         state: LockState::Granted,
@@ -82,36 +79,46 @@ fn line_of_holder(place: &Place, hold: Hold) -> LockLine
 }
 
 /// Appends the line of the connection's hold, where it has one.
-fn push_holder(lines: &mut Items<LockLine>, place: &Place, conn: Conn) -> Result<(), Memory>
-    ensures { OnOk result (lines.new ≡ lines.old ++ map (holder_line place.now.name) (cons_option (hold_of place.now.queue.holders conn) [])) }
+fn push_holder(
+    lines: &mut Items<LockLine>,
+    name: &Name,
+    queue: &Queue,
+    conn: Conn,
+) -> Result<(), Memory>
+    ensures { OnOk result (lines.new ≡ lines.old ++ map (holder_line name.now) (cons_option (hold_of queue.now.holders conn) [])) }
 {
-    if let Some(hold) = place.queue.hold(conn) {
-        lines.push_copy(&line_of_holder(place, hold))?;
+    if let Some(hold) = queue.hold(conn) {
+        lines.push_copy(&line_of_holder(name, hold))?;
     }
     Ok(())
 }
 
 /// Appends the line of each holder, by connection.
-fn push_holders(lines: &mut Items<LockLine>, head: &Head, place: &Place) -> Result<(), Memory>
+fn push_holders(
+    lines: &mut Items<LockLine>,
+    head: &Head,
+    name: &Name,
+    queue: &Queue,
+) -> Result<(), Memory>
     requires { length head.now.conns ≤ 32 }
-    ensures { OnOk result (lines.new ≡ lines.old ++ holder_lines head.now place.now) }
+    ensures { OnOk result (lines.new ≡ lines.old ++ holder_lines head.now (place name.now queue.now)) }
 {
     for conn in 0..head.conns.len() as u8 {
-        push_holder(lines, place, Conn(conn))?;
+        push_holder(lines, name, queue, Conn(conn))?;
     }
     Ok(())
 }
 
 /// A waiter's line: Converting where its connection holds the name.
-fn line_of_waiter(place: &Place, waiter: Waiter) -> LockLine
-    ensures { result ≡ waiter_line place.now waiter }
+fn line_of_waiter(name: &Name, queue: &Queue, waiter: Waiter) -> LockLine
+    ensures { result ≡ waiter_line (place name.now queue.now) waiter }
 {
-    let state = match place.queue.hold(waiter.conn) {
+    let state = match queue.hold(waiter.conn) {
         Some(_) => LockState::Converting,
         None => LockState::Waiting,
     };
     LockLine {
-        name: place.name,
+        name: *name,
         conn: waiter.conn,
         mode: waiter.target,
         state,
@@ -119,32 +126,58 @@ fn line_of_waiter(place: &Place, waiter: Waiter) -> LockLine
 }
 
 /// Appends the line of each waiter, in queue order.
-fn push_waiters(lines: &mut Items<LockLine>, place: &Place) -> Result<(), Memory>
-    ensures { OnOk result (lines.new ≡ lines.old ++ map (waiter_line place.now) place.now.queue.waiters) }
+fn push_waiters(lines: &mut Items<LockLine>, name: &Name, queue: &Queue) -> Result<(), Memory>
+    ensures { OnOk result (lines.new ≡ lines.old ++ map (waiter_line (place name.now queue.now)) queue.now.waiters) }
 {
-    for waiter in place.queue.waiters() {
-        lines.push_copy(&line_of_waiter(place, *waiter))?;
+    for waiter in queue.waiters() {
+        lines.push_copy(&line_of_waiter(name, queue, *waiter))?;
     }
     Ok(())
 }
 
-/// Appends the lines of a place: its holders by connection, then its waiters in queue order.
-pub fn push_lines(lines: &mut Items<LockLine>, head: &Head, place: &Place) -> Result<(), Memory>
+/// Appends the lines of a queue: its holders by connection, then its waiters in queue order.
+fn push_queue(
+    lines: &mut Items<LockLine>,
+    head: &Head,
+    name: &Name,
+    queue: &Queue,
+) -> Result<(), Memory>
     requires { length head.now.conns ≤ 32 }
-    ensures { OnOk result (lines.new ≡ lines.old ++ lines_of head.now place.now) }
+    ensures { OnOk result (lines.new ≡ lines.old ++ lines_of head.now (place name.now queue.now)) }
 {
-    push_holders(lines, head, place)?;
-    push_waiters(lines, place)
+    push_holders(lines, head, name, queue)?;
+    push_waiters(lines, name, queue)
 }
 
-/// The lines of the places, one place after the other.
-pub fn list_lines(alloc: Global, head: &Head, places: &[&Place]) -> Result<Items<LockLine>, Memory>
+/// Appends the lines of a name.
+fn push_lines(
+    lines: &mut Items<LockLine>,
+    head: &Head,
+    register: &Register,
+    name: &Name,
+) -> Result<(), Memory>
     requires { length head.now.conns ≤ 32 }
-    ensures { IfOk result (λ lines. lines ≡ flat_map (λ p. lines_of head.now p.now) places.now) }
+    ensures { OnOk result (lines.new ≡ lines.old ++ lines_of head.now (place name.now (line_of register.now.lines name.now))) }
+{
+    match register.queue(name) {
+        Some(queue) => push_queue(lines, head, name, queue),
+        None => Ok(()),
+    }
+}
+
+/// The lines of the names, one name after the other. `Memory`: want of memory.
+pub fn list_lines(
+    alloc: Global,
+    head: &Head,
+    register: &Register,
+    names: &[&Name],
+) -> Result<Items<LockLine>, Memory>
+    requires { length head.now.conns ≤ 32 }
+    ensures { IfOk result (λ lines. lines ≡ flat_map (λ n. lines_of head.now (place n.now (line_of register.now.lines n.now))) names.now) }
 {
     let mut lines = Items::new(alloc);
-    for place in places {
-        push_lines(&mut lines, head, place)?;
+    for name in names {
+        push_lines(&mut lines, head, register, name)?;
     }
     Ok(lines)
 }

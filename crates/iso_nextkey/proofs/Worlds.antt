@@ -12,9 +12,12 @@ use Rattle.iso_types.specs.declared.value.Rid.{Rid}
 use Rattle.iso_types.specs.declared.value.Value.{Value}
 
 -- the first entry that meets the key as its low bound is the first that is not below it
-pub from-edge : (v : Value) (ps : List (Value × Rid)) → first_from (Some (record { value = v; inclusive = true })) ps ≡ find (λ p. not (value_lt p.0 v)) ps
+pub from-edge : (v : Value) (ps : List (Value × Rid))
+    → first_from (Some (record { value = v; inclusive = true })) ps ≡ find (λ p. not (value_lt p.0 v)) ps
 from-edge v ps =
-    find-same (λ (p : Value × Rid). value_lt v p.0 || (true && value_eq v p.0)) (λ (p : Value × Rid). not (value_lt p.0 v)) (λ p. sym (not-less v p.0)) ps
+    find-same (λ (p : Value × Rid). value_lt v p.0 || (true && value_eq v p.0)) (λ (p : Value × Rid). not (value_lt p.0 v))
+    (λ p. sym (not-less v p.0)) ps
 
+-- of a world's entries it is the world's guard
 pub guard-is : (w : World) (i : IndexId) (v : Value) (ps : List (Value × Rid)) → ps ≡ entries_of w i → guard_in i v ps ≡ guard w i v
 guard-is w i v ps e = ap (guard_in i v) e

@@ -3,5 +3,7 @@
 #![tactic(auto)]
 
 mod guards;
+#[cfg(test)]
+mod tests;
 
 pub use guards::{blocked, guard_of, inherits};

@@ -2,3 +2,4 @@ pub mod SlotReads
 pub mod LookSteps
 pub mod Beside
 pub mod Current
+pub mod NextSteps

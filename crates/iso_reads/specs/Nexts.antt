@@ -1,5 +1,5 @@
 -- The answer to a step of an index scan, by where it stands.
-use Rattle.std.specs.Prelude.{Bool, Option, Some, None}
+use Rattle.std.specs.Prelude.{Bool, true, false, Option, Some, None}
 use Rattle.iso_history.specs.After.{world}
 use Rattle.iso_history.specs.Nexts.{next}
 use Rattle.iso_history.specs.Outcomes.{at_limit, next_by}
@@ -28,12 +28,22 @@ stepped_limited (Answer.Escalates t) = Escalates t
 stepped_limited (Answer.Refused code) = Refused code
 stepped_limited _ = TimedOut
 
--- the answer, by where the step stands
+-- the step asked for no lock, or was granted it
+abbrev pub lands : Stand → Bool
+lands (Stand.At key rid) = true
+lands Stand.Past = true
+lands _ = false
+
+-- the answer, by where the step stands or what it awaits
+abbrev pub stepped_at : Stand → Stepped
+stepped_at (Stand.At key rid) = At key rid
+stepped_at Stand.Past = Past
+stepped_at (Stand.Queued name) = Queued
+stepped_at (Stand.TimedOut name) = TimedOut
+
+-- or at the limit
 abbrev pub stepped_by : Content → Conn → Option Stand → Stepped
-stepped_by p c (Some (Stand.At key rid)) = At key rid
-stepped_by p c (Some Stand.Past) = Past
-stepped_by p c (Some (Stand.Queued name)) = Queued
-stepped_by p c (Some (Stand.TimedOut name)) = TimedOut
+stepped_by p c (Some stand) = stepped_at stand
 stepped_by p c None = stepped_limited (answer_of (at_limit p.head (world p.head p.history) c))
 
 -- the answer to a step

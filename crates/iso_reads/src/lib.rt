@@ -2,6 +2,8 @@
 #![tactic(auto)]
 
 mod asking;
+mod finding;
+mod guarding;
 mod laws;
 mod looking;
 mod outcomes;

@@ -1,1 +1,3 @@
 mod Lines
+pub mod Summed
+pub mod Members

@@ -56,7 +56,7 @@ pub fn put_table(out: &mut Vec<u8>, head: &Head, table: TableId) -> Result<(), M
 }
 
 // Appends the index's name; nothing where the head has no such index.
-fn put_index(out: &mut Vec<u8>, head: &Head, index: IndexId) -> Result<(), Memory>
+pub fn put_index(out: &mut Vec<u8>, head: &Head, index: IndexId) -> Result<(), Memory>
     ensures { OnOk result (out.new.items ≡ out.old.items ++ index_name head.now index) }
 {
     match head.indexes.get(usize::from(index.0)) {

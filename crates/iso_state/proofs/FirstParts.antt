@@ -33,7 +33,7 @@ use Rattle.iso_history.specs.Legal.{Ground, GroundFrom}
 use Rattle.iso_history.specs.Reserves.{HasRoom}
 use Rattle.iso_history.specs.declared.entry.Entry.{Entry}
 use Rattle.iso_locklist.specs.Places.{Ledger}
-use Rattle.iso_locklist.specs.declared.places.Place.{Place}
+use Rattle.iso_locklist.specs.Places.{Place}
 use Rattle.iso_state.specs.Firsts.{calm, first_content, first_desk, first_locks}
 use Rattle.iso_state.specs.Stands.{AreOf, HasPlace, HeadFits, Stands, no_desk}
 

@@ -37,7 +37,7 @@ fn key_at(table: &Table, rid: Rid, column: u8) -> Value
 }
 
 /// An index on this column, with the key of each slot's row; `Memory` where there is none. It places each row once.
-fn first_index(alloc: Global, table: &Table, column: u8) -> Result<KeyIndex, Memory>
+pub fn first_index(alloc: Global, table: &Table, column: u8) -> Result<KeyIndex, Memory>
     ensures { IfOk result (λ index. entries index ≡ keyed column 0 (map (λ s. s.row) table.now.items)) }
 {
     let mut index = KeyIndex::new(alloc);

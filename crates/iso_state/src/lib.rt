@@ -8,6 +8,8 @@ mod locks;
 mod pace;
 mod parts;
 mod state;
+#[cfg(test)]
+mod tests;
 
 pub use chain::write_commit;
 pub use changes::{desk_of, enter, make_room, move_to, note};

@@ -1,8 +1,10 @@
 ghost use Rattle.std.specs.Prelude.{◌≡◌, [], IfOk};
+ghost use Rattle.iso_history.specs.Legal.{Ground};
 ghost use Rattle.iso_state.specs.Stands.{HeadFits, StandsFor};
 ghost use Rattle.iso_state.specs.Tale.{tale_of};
 
 use crate::parts::Parts;
+use iso_history::{Chronicle, History};
 use iso_types::{Head, Memory};
 use std::alloc::Global;
 use std::marker::Model;
@@ -22,6 +24,16 @@ impl Model for State {
     ghost view = { λ s. tale_of s.parts };
 
     ghost invariant = { λ s. StandsFor s.parts };
+}
+
+impl Chronicle for State {
+    ghost head = { λ s. s.head };
+
+    ghost history = { λ s. s.history };
+
+    fn entries(&self) -> usize {
+        self.parts.history.len()
+    }
 }
 
 impl State {
@@ -50,6 +62,15 @@ impl State {
     {
         let State { parts } = self;
         parts
+    }
+
+    /// The history, which may stand over the head that it is of.
+    pub fn into_history(self) -> History
+        ensures ground { Ground self.head result.items }
+        ensures history { result.items ≡ self.history }
+    {
+        let State { parts } = self;
+        parts.history
     }
 }
 

@@ -1,5 +1,5 @@
 -- The first of several outcomes that is not Done.
-use Rattle.std.proofs.Common.{◌≡◌, ℕ, Bool, true, false, not, List, [], ◌∷◌, refl, ap, sym, ◌∙◌, if◌then◌else◌}
+use Rattle.std.proofs.Common.{◌≡◌, Bool, true, false, List, [], ◌∷◌, refl, ap, sym, ◌∙◌, if◌then◌else◌}
 use Rattle.iso_history.specs.Versions.{is_changed_beside}
 use Rattle.iso_history.specs.World.{World}
 use Rattle.iso_history.specs.Writes.{Written, judged_rivals, minus, or_else, view_has}

@@ -1,5 +1,5 @@
 -- What a slot tells of the versions that it stands for.
-use Rattle.std.proofs.Common.{◌≡◌, ◌<◌, ◌+◌, arith, ℕ, zero, suc, Bool, true, false, not, ◌&&◌, ◌||◌, List, [], ◌∷◌, length, refl, ap, sym, subst, ◌∙◌, if◌then◌else◌}
+use Rattle.std.proofs.Common.{◌≡◌, ◌<◌, arith, ℕ, zero, suc, Bool, true, false, not, ◌||◌, List, [], ◌∷◌, length, refl, ap, sym, subst, ◌∙◌, if◌then◌else◌}
 use Rattle.std.specs.Option.{option_map_or}
 use Rattle.std.specs.Prelude.{None, Some, Option, ◌==◌, slice_get}
 use Rattle.iso_chain.proofs.Chains.{chain-shows}
@@ -20,7 +20,6 @@ use Rattle.iso_table.specs.declared.slot.Slot.{Slot}
 use Rattle.iso_types.specs.declared.value.Conn.{Conn}
 use Rattle.iso_types.specs.declared.value.Rid.{Rid}
 use Rattle.iso_types.specs.declared.value.TableId.{TableId}
-use Rattle.iso_types.specs.declared.value.Value.{Value}
 
 -- the slot at the rid
 pub got-slot : (slots : List Slot) (n : ℕ) (o : Option Slot) → o ≡ slice_get slots n → slot_at slots (record { 0 = n }) ≡ option_map_or (λ s. s) o no_slot
@@ -100,7 +99,3 @@ module _ (p : Content) (s : Stands p) (t : TableId) (r : Rid) where
   -- the present row
   pub present-is : shown (face (slot_in p.chain.tables t r)) ≡ present (versions (world p.head p.history) t r)
   present-is = chain-shows p.chain.log (versions (world p.head p.history) t r) (face (slot_in p.chain.tables t r)) 0 back slot.face (omega arith)
-
-  -- what is read at the rid
-  pub slot-read : (o : Option Slot) → o ≡ slice_get (slots_of p.chain.tables t) r.0 → slot_in p.chain.tables t r ≡ option_map_or (λ s. s) o no_slot
-  slot-read o e = got-slot (slots_of p.chain.tables t) r.0 o e

@@ -1,15 +1,15 @@
 -- The walk over the entries of a key in an index that stands in order.
-use Rattle.std.proofs.Common.{◌≡◌, ◌<◌, Bool, true, false, not, ◌&&◌, ◌||◌, List, [], ◌∷◌, length, refl, ap, sym, ◌∙◌, subst, arith, Some, None, Option}
+use Rattle.std.proofs.Common.{◌≡◌, Bool, true, false, ◌&&◌, ◌||◌, List, [], ◌∷◌, refl, ap, sym, ◌∙◌, subst, arith, Some, None, Option}
 use Rattle.std.specs.List.{list_all}
-use Rattle.std.specs.Option.{option_map, option_map_or}
+use Rattle.std.specs.Option.{option_map}
 use Rattle.std.specs.Prelude.{filter, find, if◌then◌else◌, nat_lt}
 use Rattle.std.proofs.lemmas.Bool.Decides.{nat_tests}
 use Rattle.iso_history.proofs.phantoms.Finds.{find-passes}
-use Rattle.iso_history.proofs.phantoms.Pairs.{ge-key, lt-key, pair-irrefl}
+use Rattle.iso_history.proofs.phantoms.Pairs.{lt-key}
 use Rattle.iso_history.proofs.phantoms.Tests.{both}
-use Rattle.iso_history.proofs.phantoms.Values.{lt-asym, lt-irrefl, value_is, value_same}
+use Rattle.iso_history.proofs.phantoms.Values.{lt-irrefl, value_is, value_same}
 use Rattle.iso_history.specs.Orders.{IsOrdered}
-use Rattle.iso_key.proofs.Values.{lt-ge, lt-total}
+use Rattle.iso_key.proofs.Values.{lt-ge}
 use Rattle.iso_types.specs.Ids.{pair_lt, rid_eq}
 use Rattle.iso_types.specs.Value.{value_eq, value_lt}
 use Rattle.iso_types.specs.declared.value.Rid.{Rid}
@@ -108,7 +108,7 @@ module _ (v : Value) where
           let s : Some q ≡ Some p = rw e at f in
           let is : q ≡ p = cc in
           let rest : filter (is_left v after) qs ≡ filter (is_left v (Some q.1)) qs =
-              filter-alike (is_left v after) (is_left v (Some q.1)) (pair_lt q) (λ x lt. behind-first after q x e lt) qs o.0 in
+          filter-alike (is_left v after) (is_left v (Some q.1)) (pair_lt q) (λ x lt. behind-first after q x e lt) qs o.0 in
           let here : filter (is_left v after) (q ∷ qs) ≡ q ∷ filter (is_left v after) qs = rw e refl in
           let there : filter (is_left v (Some q.1)) (q ∷ qs) ≡ filter (is_left v (Some q.1)) qs = rw (not-again q) refl in
           subst (λ (x : Value × Rid). filter (is_left v after) (q ∷ qs) ≡ x ∷ filter (is_left v (Some x.1)) (q ∷ qs)) is
@@ -179,7 +179,8 @@ module _ (v : Value) where
       let gone : is_left v after p ≡ false = rw other refl in
       rw gone (none-above after q ps lt b.1)
 
-  found-left : (after : Option Rid) (ps : List (Value × Rid)) → IsOrdered ps → kept_key (find (passes_by after) ps) ≡ find (is_left v after) ps
+  found-left : (after : Option Rid) (ps : List (Value × Rid)) → IsOrdered ps
+      → kept_key (find (passes_by after) ps) ≡ find (is_left v after) ps
   found-left after [] o = refl
   found-left after (q ∷ qs) o = go (value_eq q.0 v) refl (found-left after qs o.1)
     where

@@ -1,17 +1,12 @@
 -- The walk over the entries of a key, and what one of them comes to.
 use Rattle.std.specs.Option.{option_map_or}
-use Rattle.std.specs.Prelude.{Bool, true, false, not, ◌&&◌, List, [], ◌∷◌, Option, Some, None, filter, if◌then◌else◌, nat_lt}
-use Rattle.iso_history.specs.Writes.{Written, judged_rivals}
+use Rattle.std.specs.Prelude.{Bool, true, false, not, ◌&&◌, List, Option, Some, None, filter, nat_lt}
+use Rattle.iso_history.specs.Writes.{Written}
 use Rattle.iso_history.specs.Writes.Written.{Done}
-use Rattle.iso_history.specs.World.{World}
 use Rattle.iso_key.specs.Entries.{first_from, next_after}
 use Rattle.iso_types.specs.Ids.{rid_eq}
 use Rattle.iso_types.specs.Value.{value_eq}
-use Rattle.iso_types.specs.declared.head.Head.{Head}
-use Rattle.iso_types.specs.declared.value.Conn.{Conn}
-use Rattle.iso_types.specs.declared.value.IndexId.{IndexId}
 use Rattle.iso_types.specs.declared.value.Rid.{Rid}
-use Rattle.iso_types.specs.declared.value.TableId.{TableId}
 use Rattle.iso_types.specs.declared.value.Value.{Value}
 
 -- the rid stands behind this one, or none is given

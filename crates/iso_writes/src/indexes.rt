@@ -109,7 +109,8 @@ fn judge_at(
 ) -> Coming
     requires stands { StandsFor parts.now }
     requires conn { conn.0 < length parts.now.head.conns }
-    ensures { coming_as result ≡ judged_indexes parts.now.head (world_of parts.now) conn table rid (option_copied old.entry) row.now (of_table parts.now.head table (index ∷ [])) }
+    ensures { coming_as result
+        ≡ judged_indexes parts.now.head (world_of parts.now) conn table rid (option_copied old.entry) row.now (of_table parts.now.head table (index ∷ [])) }
 {
     if is_of_table(&parts.head, table, index) {
         judge_index(parts, conn, table, rid, old, row, index)
@@ -130,7 +131,8 @@ pub fn judge_indexes(
     requires stands { StandsFor parts.now }
     requires conn { conn.0 < length parts.now.head.conns }
     requires few { length parts.now.head.indexes ≤ 32 }
-    ensures { coming_as result ≡ judged_indexes parts.now.head (world_of parts.now) conn table rid (option_copied old.entry) row.now (indexes_of parts.now.head table) }
+    ensures { coming_as result
+        ≡ judged_indexes parts.now.head (world_of parts.now) conn table rid (option_copied old.entry) row.now (indexes_of parts.now.head table) }
 {
     for at in 0..parts.head.indexes.len() {
         let index = numbered(&parts.head, at);

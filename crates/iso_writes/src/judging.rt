@@ -60,7 +60,8 @@ fn row_need(parts: &Parts, conn: Conn, table: TableId) -> u32
 fn judge_need(parts: &Parts, conn: Conn, need: u32) -> Coming
     requires stands { StandsFor parts.now }
     requires conn { conn.0 < length parts.now.head.conns }
-    ensures { coming_as result ≡ or_else (judged_need parts.now.head (world_of parts.now) conn need) (judged_log parts.now.head (world_of parts.now)) }
+    ensures { coming_as result
+        ≡ or_else (judged_need parts.now.head (world_of parts.now) conn need) (judged_log parts.now.head (world_of parts.now)) }
 {
     if is_limited(parts, conn, need) {
         Coming::AtLimit
@@ -85,8 +86,10 @@ fn judge_row(
     requires stands { StandsFor parts.now }
     requires conn { conn.0 < length parts.now.head.conns }
     requires more { more ≤ 1 }
-    ensures { coming_as result ≡ or_else (judged_indexes parts.now.head (world_of parts.now) conn table rid (option_copied old.entry) row.now (indexes_of parts.now.head table))
-        (or_else (judged_need parts.now.head (world_of parts.now) conn (more + need_of_keys parts.now.head (world_of parts.now) conn table row.now))
+    ensures { coming_as result
+        ≡ or_else (judged_indexes parts.now.head (world_of parts.now) conn table rid (option_copied old.entry) row.now (indexes_of parts.now.head table))
+        (or_else (judged_need parts.now.head (world_of parts.now) conn
+        (more + need_of_keys parts.now.head (world_of parts.now) conn table row.now))
         (judged_log parts.now.head (world_of parts.now))) }
 {
     let coming = judge_indexes(parts, conn, table, rid, old, row);
@@ -121,5 +124,13 @@ pub fn judge_update(parts: &Parts, conn: Conn, table: TableId, rid: Rid, row: &R
     requires may { may_change parts.now.head (world_of parts.now) conn table rid ≡ true }
     ensures { coming_as result ≡ updates parts.now.head (world_of parts.now) conn table rid row.now }
 {
-    judge_row(parts, conn, table, rid, present_row(parts, table, rid), row, 0)
+    judge_row(
+        parts,
+        conn,
+        table,
+        rid,
+        present_row(parts, table, rid),
+        row,
+        0,
+    )
 }

@@ -3,8 +3,8 @@
 
 mod changing;
 mod coming;
-mod judging;
 mod indexes;
+mod judging;
 mod keys;
 mod rivals;
 mod slots;

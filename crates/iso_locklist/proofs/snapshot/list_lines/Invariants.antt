@@ -1,8 +1,10 @@
 use Rattle.std.proofs.Common.{◌≡◌, take, Bor}
 use Rattle.std.specs.List.{flat_map}
+use Rattle.iso_lines.specs.Named.{line_of}
+use Rattle.iso_locklist.specs.Places.{place}
 use Rattle.iso_locklist.specs.Snapshots.{lines_of}
-use Rattle.iso_locklist.specs.declared.places.Place.{Place}
+use Rattle.iso_types.specs.declared.value.Name.{Name}
 use Rattle.iso_locklist.proofs.snapshot.list_lines.Given as goal
 
-abbrev pub invariant-loop-place : goal.invariant-loop-place
-invariant-loop-place l = l.lines ≡ flat_map (λ (p : Bor Place). lines_of l.head p.now) (take l.place-index l.places)
+abbrev pub invariant-loop-name : goal.invariant-loop-name
+invariant-loop-name l = l.lines ≡ flat_map (λ (n : Bor Name). lines_of l.head (place n.now (line_of l.register.lines n.now))) (take l.name-index l.names)

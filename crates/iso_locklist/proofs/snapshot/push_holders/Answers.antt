@@ -1,5 +1,6 @@
+use Rattle.iso_locklist.specs.Places.{place}
 use Rattle.iso_locklist.proofs.Listed.{holder_more}
 use Rattle.iso_locklist.proofs.snapshot.push_holders.Goals as goal
 
 pub loop-conn-preserved : goal.loop-conn-preserved
-loop-conn-preserved c = holder_more c.args.place.now c.args.lines.now c.loop-conn.lines c.push_holder.new.lines c.loop-conn.conn c.loop-conn.invariant c.in_ok-push_holder.ensures
+loop-conn-preserved c = holder_more (place c.args.name.now c.args.queue.now) c.args.lines.now c.loop-conn.lines c.push_holder.new.lines c.loop-conn.conn c.loop-conn.invariant c.in_ok-push_holder.ensures

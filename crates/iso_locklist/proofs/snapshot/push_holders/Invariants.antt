@@ -7,4 +7,4 @@ use Rattle.iso_locklist.proofs.snapshot.push_holders.Given as goal
 
 abbrev pub invariant-loop-conn : goal.invariant-loop-conn
 invariant-loop-conn l =
-    l.lines ≡ l.initial.lines ++ map (holder_line l.place.name) (filter_map (hold_of l.place.queue.holders) (map (λ k. record { 0 = k }) (range_with_len 0 l.conn)))
+    l.lines ≡ l.initial.lines ++ map (holder_line l.name) (filter_map (hold_of l.queue.holders) (map (λ k. record { 0 = k }) (range_with_len 0 l.conn)))

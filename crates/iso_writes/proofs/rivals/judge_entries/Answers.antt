@@ -1,13 +1,11 @@
-use Rattle.std.proofs.Common.{◌≡◌, ◌<◌, ◌∙◌, ap, arith, length, sym, suc, ℕ, None, Some, ◌∷◌, [], List}
-use Rattle.std.specs.Prelude.{filter, not, Bool, true, false}
-use Rattle.iso_history.specs.Writes.{Written, judged_rivals, or_else}
+use Rattle.std.proofs.Common.{◌∙◌, ap, arith, length, sym, List}
+use Rattle.iso_history.specs.Writes.{judged_rivals}
 use Rattle.iso_key.specs.Pages.{entries}
 use Rattle.iso_state.specs.Stands.{world_of}
 use Rattle.iso_types.specs.declared.value.Rid.{Rid}
 use Rattle.iso_types.specs.declared.value.Value.{Value}
-use Rattle.iso_writes.proofs.Firsts.{ended, entry-first, kept-on, passed-on}
+use Rattle.iso_writes.proofs.Firsts.{ended, kept-on, passed-on}
 use Rattle.iso_writes.proofs.Walks.{walk-end, walk-start, walk-step}
-use Rattle.iso_writes.specs.Walk.{is_done, is_left, others}
 use Rattle.iso_writes.proofs.rivals.judge_entries.Goals as goal
 
 pub loop-rid-init : goal.loop-rid-init

@@ -1,47 +1,38 @@
-use Rattle.std.proofs.Common.{◌≡◌, true}
-use Rattle.std.proofs.Common.{ap, refl, sym, subst, ◌∙◌, List}
-use Rattle.iso_locklist.specs.Places.{IsCounted, Ledger, are_apart, line_at, names}
-use Rattle.iso_locklist.specs.declared.places.Place.{Place}
-use Rattle.iso_locklist.proofs.Apart.{apart_each}
-use Rattle.iso_locklist.proofs.Counts.{counted_each}
-use Rattle.iso_locklist.proofs.Touched.{claimed_same}
-use Rattle.iso_locklist.proofs.Updates.{line_at_each}
-use Rattle.iso_queue.specs.Lines.{Line, claimed}
-use Rattle.iso_types.specs.declared.value.Name.{Name}
-use Rattle.iso_locklist.proofs.ClaimedLists.{claimed_lists}
-use Rattle.std.proofs.Common.{Bool}
+use Rattle.std.proofs.Common.{◌≡◌, ◌∙◌, List, Bool, false, ap, subst, sym}
 use Rattle.std.specs.Prelude.{if◌then◌else◌}
+use Rattle.iso_locklist.specs.Holding.{LocksAre}
+use Rattle.iso_locklist.specs.Lists.{claimed_waits}
+use Rattle.iso_locklist.specs.Places.{line_at}
+use Rattle.iso_locklist.proofs.ClaimedLists.{claimed_lists}
+use Rattle.iso_locklist.proofs.Holding.{claimed_are}
+use Rattle.iso_locklist.proofs.Registered.{claimed_stuck, grantable_nowhere, stuck_holds, stuck_waits}
+use Rattle.iso_queue.specs.Locks.{Hold}
+use Rattle.iso_queue.specs.Queues.{Wait, is_grantable}
 use Rattle.iso_queue.specs.declared.types.Claimed.{Claimed}
-use Rattle.iso_locklist.specs.Places.{is_grantable_in}
-use Rattle.iso_locklist.proofs.Holding.{claimed_are, grantable_shown}
 use Rattle.iso_locklist.proofs.list.LockList.claim.Goals as goal
 
-pub invariant_of-self : goal.invariant_of-self
-invariant_of-self c =
-    record {
-      counted = subst (λ (ps : List Place). IsCounted ps c.self.inside.counts c.self.inside.total) (sym c.claim_all.ensures.places)
-          (counted_each (λ (n : Name) (q : Line). claimed q c.args.conn) c.self.inside.places.items c.self.inside.counts c.self.inside.total c.self.invariant.counted
-          (λ n q d. claimed_same q c.args.conn d));
-      apart = ap (λ (ps : List Place). are_apart (names ps)) c.claim_all.ensures.places
-          ∙ apart_each (λ (n : Name) (q : Line). claimed q c.args.conn) c.self.inside.places.items c.self.invariant.apart;
-    }
-
-pub returns-clause-lines : goal.returns-clause-lines
-returns-clause-lines c = λ n.
-    ap (λ (ps : List Place). line_at ps n) c.claim_all.ensures.places ∙ line_at_each (λ (n : Name) (q : Line). claimed q c.args.conn) c.self.inside.places.items n refl
-    ∙ ap (λ (l : Ledger). claimed (line_at l.places n) c.args.conn) c.self.view_is
-
-pub returns-clause-lists : goal.returns-clause-lists
-returns-clause-lists c = λ hs xs are single.
+pub returns-then-can_claim_at-clause-lists : goal.returns-then-can_claim_at-clause-lists
+returns-then-can_claim_at-clause-lists c = λ hs xs are single.
     let old = c.args.self.now.places in
-    let unlike = (subst (λ (l : Ledger). are_apart (names l.places) ≡ true) c.self.view_is c.self.invariant.apart) in
-    let still = ap (λ (ps : List Place). are_apart (names ps)) c.claim_all.ensures.places
-    ∙ apart_each (λ (n : Name) (q : Line). claimed q c.args.conn) c.self.inside.places.items c.self.invariant.apart in
-    claimed_are old c.claim_all.new.places.items unlike still hs xs are c.args.conn single
-    (λ le. claimed_lists old c.claim_all.new.places.items c.args.conn unlike still le (returns-clause-lines c))
+    let new = c.work.new.self.places in
+    claimed_are old new c.work.ensures.was_apart c.work.ensures.is_apart hs xs are c.args.conn single
+    (λ le. claimed_lists old new c.args.conn c.work.ensures.was_apart c.work.ensures.is_apart le c.work.ensures.lines)
 
-pub returns-clause-told : goal.returns-clause-told
-returns-clause-told c = λ hs xs are single.
-    c.claim_all.ensures.answer
-    ∙ ap (λ (l : Ledger). if is_grantable_in l.places c.args.conn then Claimed.Granted else Claimed.NotYet) c.self.view_is
-    ∙ ap (λ (b : Bool). if b then Claimed.Granted else Claimed.NotYet) (grantable_shown c.args.self.now.places (subst (λ (l : Ledger). are_apart (names l.places) ≡ true) c.self.view_is c.self.invariant.apart) hs xs are c.args.conn single)
+pub returns-then-can_claim_at-clause-told : goal.returns-then-can_claim_at-clause-told
+returns-then-can_claim_at-clause-told c = λ hs xs are single.
+    ap (λ (b : Bool). if b then Claimed.Granted else Claimed.NotYet) (sym c.if-can_claim_at.true ∙ c.can_claim_at.ensures.told hs xs are single)
+
+pub returns-else-can_claim_at-clause-lines : goal.returns-else-can_claim_at-clause-lines
+returns-else-can_claim_at-clause-lines c = λ n.
+    let none : c.can_claim_at.result ≡ false = c.if-can_claim_at.false in
+    sym (claimed_stuck (line_at c.args.self.now.places n) c.args.conn (grantable_nowhere c.args.self.now.places c.args.conn (sym c.can_claim_at.ensures.answer ∙ none) n))
+
+pub returns-else-can_claim_at-clause-lists : goal.returns-else-can_claim_at-clause-lists
+returns-else-can_claim_at-clause-lists c = λ hs xs are single.
+    let stuck : is_grantable hs xs c.args.conn ≡ false = sym (c.can_claim_at.ensures.told hs xs are single) ∙ c.if-can_claim_at.false in
+    subst (λ (gs : List Hold). LocksAre gs (claimed_waits hs xs c.args.conn) c.args.self.now) (sym (stuck_holds hs xs c.args.conn stuck))
+    (subst (λ (ys : List Wait). LocksAre hs ys c.args.self.now) (sym (stuck_waits hs xs c.args.conn stuck)) are)
+
+pub returns-else-can_claim_at-clause-told : goal.returns-else-can_claim_at-clause-told
+returns-else-can_claim_at-clause-told c = λ hs xs are single.
+    ap (λ (b : Bool). if b then Claimed.Granted else Claimed.NotYet) (sym c.if-can_claim_at.false ∙ c.can_claim_at.ensures.told hs xs are single)

@@ -1,6 +1,9 @@
-use Rattle.std.proofs.Common.{refl}
-use Rattle.iso_locklist.proofs.Counts.{counted_none}
+use Rattle.std.proofs.Common.{ap, List, map, ℕ}
+use Rattle.iso_lines.specs.Named.{line_under}
+use Rattle.iso_locklist.specs.Places.{place}
+use Rattle.iso_types.specs.declared.value.Name.{Name}
+use Rattle.iso_locklist.proofs.Registered.{places_apart}
 use Rattle.iso_locklist.proofs.list.LockList.new.Goals as goal
 
 pub invariant_of-result : goal.invariant_of-result
-invariant_of-result c = rw c.new.ensures.items (record { counted = counted_none; apart = refl })
+invariant_of-result c = record { apart = places_apart c.in_ok-register.register.lines c.names_once.ensures }

@@ -1,16 +1,7 @@
-use Rattle.std.proofs.Common.{ap, refl, ◌∙◌, List}
-use Rattle.iso_locklist.specs.Places.{line_at, changed_in}
-use Rattle.iso_locklist.specs.declared.places.Change.{Change}
-use Rattle.iso_locklist.specs.declared.places.Place.{Place}
-use Rattle.iso_locklist.specs.declared.places.Scope.TheVariants.{Each}
-use Rattle.iso_locklist.proofs.Updates.{line_at_each}
+use Rattle.iso_locklist.specs.Places.{line_at}
 use Rattle.iso_locklist.proofs.Holding.{lines_dropped}
 use Rattle.iso_locklist.proofs.list.LockList.release_all.Goals as goal
 
-pub returns-clause-lines : goal.returns-clause-lines
-returns-clause-lines c = λ n.
-    ap (λ (ps : List Place). line_at ps n) c.change_all.ensures.places ∙ line_at_each (changed_in c.args.self.now.index_tables Each Change.Release c.args.conn) c.args.self.now.places n refl
-
 pub returns-clause-lists : goal.returns-clause-lists
 returns-clause-lists c = λ hs xs are.
-    lines_dropped hs xs (λ n. line_at c.args.self.now.places n) (λ n. line_at c.change_all.new.self.places n) are c.args.conn (returns-clause-lines c)
+    lines_dropped hs xs (λ n. line_at c.args.self.now.places n) (λ n. line_at c.work.new.self.places n) are c.args.conn c.work.ensures.lines

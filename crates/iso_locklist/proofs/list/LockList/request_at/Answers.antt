@@ -1,59 +1,66 @@
-use Rattle.std.proofs.Common.{◌≡◌, ◌∙◌, ◌+◌, List, ap, get_or}
-use Rattle.iso_locklist.specs.Places.{Ledger, line_at, need_of}
-use Rattle.iso_locklist.specs.declared.places.Place.{Place}
-use Rattle.iso_locklist.proofs.Apart.{apart_updated}
-use Rattle.iso_locklist.proofs.Counts.{counted, moved_name, needed}
-use Rattle.iso_locklist.proofs.Touched.{asked_other, asked_own}
-use Rattle.iso_locklist.proofs.Updates.{line_at_other, line_at_updated}
-use Rattle.iso_queue.specs.Lines.{asked, is_touched}
-use Rattle.std.proofs.Common.{subst, sym}
-use Rattle.std.proofs.Common.{Bool}
-use Rattle.iso_locklist.specs.Lists.{IsAsked, grants_in}
-use Rattle.iso_locklist.specs.Places.{are_apart, names}
-use Rattle.iso_locklist.proofs.AskedLists.{asked_lists}
+use Rattle.std.proofs.Common.{◌≡◌, ◌∙◌, ◌<◌, ℕ, Bool, true, false, ap, arith, subst, sym}
+use Rattle.std.specs.Prelude.{if◌then◌else◌}
+use Rattle.iso_lines.specs.Locks.{counts_below}
 use Rattle.iso_locklist.specs.Holding.{AreLines}
+use Rattle.iso_locklist.specs.Lists.{IsAsked, grants_in}
+use Rattle.iso_locklist.specs.Places.{Ledger, all_taken, are_apart, line_at, names, need_of, places_in, room_for, room_to_ask, taken}
+use Rattle.iso_locklist.specs.declared.room.Room.{Room}
+use Rattle.iso_locklist.specs.declared.room.Room.TheVariants.{Free}
+use Rattle.iso_locklist.proofs.AskedLists.{asked_lists}
 use Rattle.iso_locklist.proofs.Holding.{asked_are, grants_shown}
+use Rattle.iso_locklist.proofs.Registered.{mode_touched, places_apart, places_line, room_more, summed_in}
+use Rattle.iso_queue.specs.Lines.{Line, asked, has_mode, is_granted, is_touched}
+use Rattle.iso_queue.specs.declared.types.Asked.{Asked}
 use Rattle.iso_locklist.proofs.list.LockList.request_at.Goals as goal
 
+pub request-requires-clause-room : goal.request-requires-clause-room
+request-requires-clause-room c = λ none.
+    let lines = c.self.inside.register.lines in
+    let n = c.args.name.now in
+    let summed : counts_below c.self.inside.register.names 32 ≡ all_taken (places_in lines) =
+    summed_in (places_in lines) c.self.invariant.apart c.self.inside.register.names
+    (λ d lt ns distinct members. c.total.ensures.each d lt ns distinct (λ m. members m ∙ ap (λ (q : Line). is_touched q d) (places_line lines m))) in
+    let same : all_taken (places_in lines) ≡ all_taken c.args.self.now.places = ap (λ (l : Ledger). all_taken l.places) c.self.view_is in
+    let untouched : is_touched (line_at c.args.self.now.places n) c.args.conn ≡ false =
+    ap (λ (l : Ledger). is_touched (line_at l.places n) c.args.conn) (sym c.self.view_is) ∙ ap (λ (q : Line). is_touched q c.args.conn) (places_line lines n) ∙ none in
+    let free : room_to_ask c.args.self.now c.args.conn n c.args.mode ≡ Free =
+    ap (λ (b : Bool). if b then Free else room_for c.args.self.now c.args.conn (need_of c.args.self.now.places c.args.conn n)) (sym c.holds_mode.ensures)
+    ∙ ap (λ (r : Room). if c.holds_mode.result then Free else r) (ap (room_for c.args.self.now c.args.conn) (sym c.need_at.ensures) ∙ sym c.room_at-room.ensures)
+    ∙ sym c.room_beside.ensures ∙ c.in-Free.is in
+    let more = room_more (is_touched (line_at c.args.self.now.places n) c.args.conn) (has_mode (line_at c.args.self.now.places n).holders c.args.conn c.args.mode)
+    (taken c.args.self.now.places c.args.conn) (all_taken c.args.self.now.places) c.args.self.now.share c.args.self.now.slots
+    (mode_touched (line_at c.args.self.now.places n) c.args.conn c.args.mode) free untouched in
+    let slots : c.self.inside.slots ≡ c.args.self.now.slots = ap (λ (l : Ledger). l.slots) c.self.view_is in
+    subst (λ (k : ℕ). k < 4294967295) (sym (summed ∙ same)) (omega (arith, more, slots, c.self.ranges))
+
 pub invariant_of-self-2 : goal.invariant_of-self-2
-invariant_of-self-2 c =
-    let line = line_at c.self.inside.places.items c.args.name.now in
-    let need : c.need-need.result ≡ need_of c.self.inside.places.items c.args.conn c.args.name.now =
-    c.need-need.ensures ∙ ap (λ (ps : List Place). need_of ps c.args.conn c.args.name.now) c.deref.ensures.value in
-    rw c.in-Ok.ensures.places
-    (record {
-      counted = counted c.self.inside.places.items _ line (asked line c.args.conn c.args.mode c.args.term) c.self.inside.counts c.self.inside.total c.args.conn.0
-          (get_or c.self.inside.counts c.args.conn.0 0 + c.need-need.result) (c.self.inside.total + c.need-need.result) c.self.invariant.counted
-          (moved_name c.self.inside.places.items c.args.name.now (asked line c.args.conn c.args.mode c.args.term) c.args.conn.0
-          (λ d ne. asked_other line c.args.conn c.args.mode c.args.term d ne)) c.requires
-          (needed (is_touched line c.args.conn) (is_touched (asked line c.args.conn c.args.mode c.args.term) c.args.conn) c.need-need.result
-          (get_or c.self.inside.counts c.args.conn.0 0) need (asked_own line c.args.conn c.args.mode c.args.term))
-          (needed (is_touched line c.args.conn) (is_touched (asked line c.args.conn c.args.mode c.args.term) c.args.conn) c.need-need.result
-          c.self.inside.total need (asked_own line c.args.conn c.args.mode c.args.term));
-      apart = apart_updated c.self.inside.places.items c.args.name.now (asked line c.args.conn c.args.mode c.args.term) c.self.invariant.apart;
-    })
+invariant_of-self-2 c = record { apart = places_apart c.request.new.self.lines c.names_once.ensures }
+
+pub returns-clause-answer : goal.returns-clause-answer
+returns-clause-answer c =
+    c.in-Ok.ensures.answer
+    ∙ ap (λ (q : Line). if is_granted q c.args.conn c.args.mode then Asked.Granted else Asked.Queued) (sym (places_line c.self.inside.register.lines c.args.name.now))
+    ∙ ap (λ (l : Ledger). if is_granted (line_at l.places c.args.name.now) c.args.conn c.args.mode then Asked.Granted else Asked.Queued) c.self.view_is
 
 pub returns-clause-line : goal.returns-clause-line
 returns-clause-line c =
-    ap (λ (ps : List Place). line_at ps c.args.name.now) c.in-Ok.ensures.places ∙ line_at_updated _ _ _
+    places_line c.request.new.self.lines c.args.name.now ∙ c.in-Ok.ensures.line
+    ∙ ap (λ (q : Line). asked q c.args.conn c.args.mode c.args.term) (sym (places_line c.self.inside.register.lines c.args.name.now))
     ∙ ap (λ (l : Ledger). asked (line_at l.places c.args.name.now) c.args.conn c.args.mode c.args.term) c.self.view_is
 
 pub returns-clause-others : goal.returns-clause-others
 returns-clause-others c = λ n ne.
-    ap (λ (ps : List Place). line_at ps n) c.in-Ok.ensures.places ∙ line_at_other _ _ n _ ne ∙ ap (λ (l : Ledger). line_at l.places n) c.self.view_is
+    places_line c.request.new.self.lines n ∙ c.in-Ok.ensures.others n ne ∙ sym (places_line c.self.inside.register.lines n) ∙ ap (λ (l : Ledger). line_at l.places n) c.self.view_is
 
 pub returns-clause-lists : goal.returns-clause-lists
 returns-clause-lists c = λ hs xs are idle.
-    let old = c.self.inside.places.items in
-    let line = line_at old c.args.name.now in
-    let are' = subst (λ (l : Ledger). AreLines hs xs (line_at l.places)) (sym c.self.view_is) are in
-    let still = ap (λ (ps : List Place). are_apart (names ps)) c.in-Ok.ensures.places
-    ∙ apart_updated old c.args.name.now (asked line c.args.conn c.args.mode c.args.term) c.self.invariant.apart in
-    let told = grants_shown old c.self.invariant.apart hs xs are' c.args.conn c.args.name.now c.args.mode idle in
-    let asked = asked_lists old c.ask.new.places.items c.args.conn c.args.name.now c.args.mode c.args.term c.self.invariant.apart still
-    (ap (λ (ps : List Place). line_at ps c.args.name.now) c.in-Ok.ensures.places ∙ line_at_updated _ _ _)
-    (λ n ne. ap (λ (ps : List Place). line_at ps n) c.in-Ok.ensures.places ∙ line_at_other _ _ n _ ne) in
-    let both = asked_are old c.ask.new.places.items c.self.invariant.apart still hs xs are' c.args.conn c.args.name.now c.args.mode c.args.term
+    let old = c.args.self.now.places in
+    let new = places_in c.request.new.self.lines in
+    let unlike = (subst (λ (l : Ledger). are_apart (names l.places) ≡ true) c.self.view_is c.self.invariant.apart) in
+    let still = places_apart c.request.new.self.lines c.names_once.ensures in
+    let told = grants_shown old unlike hs xs are c.args.conn c.args.name.now c.args.mode idle in
+    let lists = asked_lists old new c.args.conn c.args.name.now c.args.mode c.args.term unlike still (returns-clause-line c) (returns-clause-others c) in
+    let both = asked_are old new unlike still hs xs are c.args.conn c.args.name.now c.args.mode c.args.term
     (grants_in hs xs c.args.conn c.args.name.now c.args.mode)
-    (subst (λ (b : Bool). IsAsked b old c.ask.new.places.items c.args.conn c.args.name.now c.args.mode c.args.term) told asked) in
+    (subst (λ (b : Bool). IsAsked b old new c.args.conn c.args.name.now c.args.mode c.args.term) told lists) in
     record { granted_are = both.0; queued_are = both.1 }

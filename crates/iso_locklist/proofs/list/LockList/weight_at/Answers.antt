@@ -1,15 +1,18 @@
-use Rattle.std.proofs.Common.{◌≤◌, ℕ, List, subst, sym, arith}
+use Rattle.std.proofs.Common.{List, ◌∙◌, ap}
 use Rattle.std.specs.Prelude.{count_by}
-use Rattle.iso_locklist.specs.Places.{taken}
-use Rattle.iso_locklist.specs.Weights.{is_weighed}
-use Rattle.iso_locklist.specs.declared.places.Place.{Place}
-use Rattle.iso_locklist.proofs.Weighed.{weight_few}
+use Rattle.iso_lines.specs.Weighs.{weighs}
+use Rattle.iso_locklist.specs.Places.{Ledger, places_in}
+use Rattle.iso_locklist.specs.Weights.{is_weighed, weight_in}
+use Rattle.iso_locklist.proofs.Registered.{counted_in, places_line, weighs_nobody}
+use Rattle.iso_queue.specs.Lines.{Line}
+use Rattle.iso_types.specs.declared.value.TableId.{TableId}
 use Rattle.iso_locklist.proofs.list.LockList.weight_at.Goals as goal
 
-pub prove-unreachable-requires : goal.prove-unreachable-requires
-prove-unreachable-requires c =
-    let few : c.weight-weight.result ≤ taken c.self.inside.places.items c.args.conn =
-    subst (λ (k : ℕ). k ≤ taken c.self.inside.places.items c.args.conn) (sym c.weight-weight.ensures)
-    (subst (λ (ps : List Place). count_by (is_weighed c.as_slice.result.now c.args.conn c.args.table) ps ≤ taken c.self.inside.places.items c.args.conn) (sym c.deref.ensures.value)
-    (weight_few c.as_slice.result.now c.args.conn c.args.table c.self.inside.places.items)) in
-    omega (arith, few, c.if-prove.true, c.self.invariant.counted.each c.args.conn.0 c.requires)
+pub returns : goal.returns
+returns c =
+    let lines = c.self.inside.register.lines in
+    let ts = c.as_slice.result.now in
+    counted_in (places_in lines) c.self.invariant.apart (weighs ts c.args.conn c.args.table) (weighs_nobody ts c.args.conn c.args.table) c.weight.result
+    (λ ns distinct members. c.weight.ensures ns distinct (λ n. members n ∙ ap (λ (q : Line). weighs ts c.args.conn c.args.table n q) (places_line lines n)))
+    ∙ ap (λ (us : List TableId). count_by (is_weighed us c.args.conn c.args.table) (places_in lines)) c.as_slice.ensures
+    ∙ ap (λ (l : Ledger). weight_in l c.args.conn c.args.table) c.self.view_is

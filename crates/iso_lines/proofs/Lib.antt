@@ -1,0 +1,16 @@
+pub mod Names
+pub mod Tests
+pub mod Touched
+pub mod Parts
+pub mod Seated
+pub mod Released
+pub mod Settled
+pub mod Loose
+pub mod Waiting
+pub mod Counted
+pub mod Same
+pub mod Worked
+pub mod Pruned
+pub mod Sums
+pub mod Walked
+pub mod Weighed

@@ -1,0 +1,12 @@
+use Rattle.std.proofs.Common.{rules, ◌≡◌, ◌∙◌, ap, is_some, ℕ, List}
+use Rattle.indexmap.proofs.CallerLemmas.{filter-RetainsPairs}
+use Rattle.iso_types.specs.declared.value.Name.{Name}
+use Rattle.iso_lines.proofs.Worked.{kept_keys}
+use Rattle.iso_lines.specs.Named.{key_of, line_of}
+use Rattle.iso_queue.specs.Lines.{is_touched}
+use Rattle.iso_lines.proofs.work.keep_touched.Goals as goal
+
+pub returns-clause-kept : goal.returns-clause-kept
+returns-clause-kept c n =
+    ap (λ (es : List (Name × ℕ)). is_some (key_of es n)) (filter-RetainsPairs _ (λ (e : Name × ℕ). (λ (m : Name). is_touched (line_of c.args.lines.now m) c.args.conn) e.0) _ (λ k v b w g call. search rules) _ _ c.retain.ensures.filtered)
+    ∙ kept_keys (λ (m : Name). is_touched (line_of c.args.lines.now m) c.args.conn) c.args.names.now.entries n

@@ -1,0 +1,4 @@
+pub mod Named
+pub mod Locks
+pub mod Tasks
+pub mod Weighs
