@@ -6,7 +6,6 @@ use Rattle.iso_history.proofs.whole.Pressed.{held-gives, prey-held}
 use Rattle.iso_history.specs.After.{world}
 use Rattle.iso_history.specs.Requests.{Outcome, escalation, request}
 use Rattle.iso_history.specs.Requests.Outcome.{Gives, Limit}
-use Rattle.iso_history.specs.World.{World}
 use Rattle.iso_history.specs.declared.entry.Got.{Got}
 use Rattle.iso_modes.specs.Modes.{escalated}
 use Rattle.iso_modes.specs.declared.Mode.{Mode}
@@ -15,7 +14,6 @@ use Rattle.iso_queue.specs.Limits.{prey}
 use Rattle.iso_queue.specs.Locks.{held}
 use Rattle.iso_state.proofs.FactsAlong.{sound-of}
 use Rattle.iso_state.specs.Stands.{Content, Stands}
-use Rattle.iso_types.specs.declared.head.Head.{Head}
 use Rattle.iso_types.specs.declared.value.Conn.{Conn}
 use Rattle.iso_types.specs.declared.value.Name.TheVariants.{Table}
 use Rattle.iso_types.specs.declared.value.TableId.{TableId}

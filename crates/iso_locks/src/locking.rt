@@ -29,16 +29,16 @@ pub enum Answer {
     Refused(i32),
 }
 
-/// The entry of a lock that is kept to the unit's end.
-fn locked(conn: Conn, name: &Name, mode: Mode, why: Why, got: Got) -> Entry
-    ensures { result ≡ by_agent conn (acts.Lock name.now mode terms.Kept why got) }
+/// The entry of a lock.
+fn locked(conn: Conn, name: &Name, mode: Mode, term: Term, why: Why, got: Got) -> Entry
+    ensures { result ≡ by_agent conn (acts.Lock name.now mode term why got) }
 {
     Entry {
         who: Who::Agent(conn),
         act: Act::Lock {
             name: *name,
             mode,
-            term: Term::Kept,
+            term,
             why,
             got,
         },
@@ -61,16 +61,18 @@ fn grant(parts: &mut Parts, conn: Conn, name: &Name, mode: Mode, why: Why) -> Re
 {
     make_room(parts, 1)?;
     take(parts, conn, name, mode, Term::Kept, false)?;
-    enter(parts, conn, locked(conn, name, mode, why, Got::Granted));
+    let got = Got::Granted;
+    enter(parts, conn, locked(conn, name, mode, Term::Kept, why, got));
     Ok(())
 }
 
 /// Makes the entry of a lock that queues for the mode that the connection will hold.
-fn wait(
+pub fn wait(
     parts: &mut Parts,
     conn: Conn,
     name: &Name,
     mode: Mode,
+    term: Term,
     why: Why,
     to: Mode,
 ) -> Result<(), StepFault>
@@ -78,16 +80,16 @@ fn wait(
     requires open { (world_of parts.old).pace.finished ≡ false }
     requires conn { conn.0 < length parts.old.head.conns }
     requires runs { Runs (world_of parts.old) conn }
-    requires by { LockStands parts.old.head (world_of parts.old) conn name.now mode terms.Kept why (Gained.Queued to) }
+    requires by { LockStands parts.old.head (world_of parts.old) conn name.now mode term why (Gained.Queued to) }
     requires outcome { request parts.old.head (world_of parts.old) conn name.now mode ≡ Gives (Gained.Queued to) }
     ensures stands { StandsFor parts.new }
     ensures head { parts.new.head ≡ parts.old.head }
-    ensures full { result ≡ Err StepFault.HistoryFull → is_full parts.old.head (world_of parts.old) (by_agent conn (acts.Lock name.now mode terms.Kept why (Gained.Queued to))) ≡ true }
-    ensures ok { OnOk result (parts.new.history.items ≡ parts.old.history.items ++ by_agent conn (acts.Lock name.now mode terms.Kept why (Gained.Queued to)) ∷ []) }
+    ensures full { result ≡ Err StepFault.HistoryFull → is_full parts.old.head (world_of parts.old) (by_agent conn (acts.Lock name.now mode term why (Gained.Queued to))) ≡ true }
+    ensures ok { OnOk result (parts.new.history.items ≡ parts.old.history.items ++ by_agent conn (acts.Lock name.now mode term why (Gained.Queued to)) ∷ []) }
     ensures err { OnErr result (content_of parts.new ≡ content_of parts.old) }
 {
     make_room(parts, 1)?;
-    enqueue(parts, conn, name, mode, Term::Kept, to)?;
+    enqueue(parts, conn, name, mode, term, to)?;
     parts.locks.settle(conn, None);
     let desk = Desk {
         phase: Phase::Waiting,
@@ -98,28 +100,29 @@ fn wait(
         parts,
         conn,
         desk,
-        locked(conn, name, mode, why, Got::Queued(to)),
+        locked(conn, name, mode, term, why, Got::Queued(to)),
     );
     Ok(())
 }
 
 /// Makes the entry of a lock that times out: the connection has to roll back.
-fn time_out(
+pub fn time_out(
     parts: &mut Parts,
     conn: Conn,
     name: &Name,
     mode: Mode,
+    term: Term,
     why: Why,
 ) -> Result<(), StepFault>
     requires stands { StandsFor parts.old }
     requires open { (world_of parts.old).pace.finished ≡ false }
     requires conn { conn.0 < length parts.old.head.conns }
     requires runs { Runs (world_of parts.old) conn }
-    requires by { LockStands parts.old.head (world_of parts.old) conn name.now mode terms.Kept why Gained.TimedOut }
+    requires by { LockStands parts.old.head (world_of parts.old) conn name.now mode term why Gained.TimedOut }
     ensures stands { StandsFor parts.new }
     ensures head { parts.new.head ≡ parts.old.head }
-    ensures full { result ≡ Err StepFault.HistoryFull → is_full parts.old.head (world_of parts.old) (by_agent conn (acts.Lock name.now mode terms.Kept why Gained.TimedOut)) ≡ true }
-    ensures ok { OnOk result (parts.new.history.items ≡ parts.old.history.items ++ by_agent conn (acts.Lock name.now mode terms.Kept why Gained.TimedOut) ∷ []) }
+    ensures full { result ≡ Err StepFault.HistoryFull → is_full parts.old.head (world_of parts.old) (by_agent conn (acts.Lock name.now mode term why Gained.TimedOut)) ≡ true }
+    ensures ok { OnOk result (parts.new.history.items ≡ parts.old.history.items ++ by_agent conn (acts.Lock name.now mode term why Gained.TimedOut) ∷ []) }
     ensures err { OnErr result (content_of parts.new ≡ content_of parts.old) }
 {
     make_room(parts, 0)?;
@@ -135,7 +138,7 @@ fn time_out(
         parts,
         conn,
         desk,
-        locked(conn, name, mode, why, Got::TimedOut),
+        locked(conn, name, mode, term, why, Got::TimedOut),
     );
     Ok(())
 }
@@ -189,11 +192,11 @@ fn escalate_on(
             Ok(Answer::Escalates(table))
         }
         Judged::Queues(to) => {
-            wait(parts, conn, &name, mode, Why::Escalation, to)?;
+            wait(parts, conn, &name, mode, Term::Kept, Why::Escalation, to)?;
             Ok(Answer::Escalates(table))
         }
         Judged::TimesOut => {
-            time_out(parts, conn, &name, mode, Why::Escalation)?;
+            time_out(parts, conn, &name, mode, Term::Kept, Why::Escalation)?;
             Ok(Answer::TimedOut)
         }
         Judged::AtLimit => unreachable!(),
@@ -251,11 +254,11 @@ pub fn lock(parts: &mut Parts, conn: Conn, name: Name, mode: Mode) -> Result<Ans
             Ok(Answer::Done)
         }
         Judged::Queues(to) => {
-            wait(parts, conn, name, mode, Why::Asked, to)?;
+            wait(parts, conn, name, mode, Term::Kept, Why::Asked, to)?;
             Ok(Answer::Queued)
         }
         Judged::TimesOut => {
-            time_out(parts, conn, name, mode, Why::Asked)?;
+            time_out(parts, conn, name, mode, Term::Kept, Why::Asked)?;
             Ok(Answer::TimedOut)
         }
         Judged::AtLimit => escalate(parts, conn),

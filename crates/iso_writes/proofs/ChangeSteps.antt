@@ -1,6 +1,7 @@
 -- The parts after a change.
 use Rattle.std.proofs.Common.{◌≡◌, ◌≤◌, ◌<◌, ◌+◌, ◌∷◌, ◌++◌, [], ℕ, Bool, true, false, ◌||◌, length, refl, ap, sym, ◌∙◌, arith, subst}
-use Rattle.std.specs.Prelude.{slice_set}
+use Rattle.std.specs.Prelude.{List, slice_set}
+use Rattle.std.proofs.Math.ListN.{length-set}
 use Rattle.iso_chain.specs.Stands.{AreChained, Chained}
 use Rattle.iso_history.proofs.limits.Limit.{needs-le}
 use Rattle.iso_history.proofs.limits.Pushed.{debt-pushed, needs-pushed}
@@ -10,7 +11,7 @@ use Rattle.iso_history.specs.Lasts.{last_of}
 use Rattle.iso_history.specs.Legal.{Allowed, ByAgent}
 use Rattle.iso_history.specs.Makers.{by_agent}
 use Rattle.iso_history.specs.Reserves.{HasRoom, debt_less, debt_more, reserves_less, reserves_more}
-use Rattle.iso_history.specs.Stops.{is_full, is_never_refused}
+use Rattle.iso_history.specs.Stops.{is_full, is_never_refused, reserves}
 use Rattle.iso_history.specs.Paces.{is_stop, pace_by}
 use Rattle.iso_history.specs.World.{Pace, World}
 use Rattle.iso_history.specs.declared.entry.Act.{Act}
@@ -19,14 +20,19 @@ use Rattle.iso_history.specs.declared.entry.Who.TheVariants.{Agent}
 use Rattle.iso_locklist.specs.Holding.{LocksAre}
 use Rattle.iso_locklist.specs.Places.{IsSameLimits, Ledger}
 use Rattle.iso_types.specs.declared.head.Head.{Head}
+use Rattle.iso_types.specs.declared.desk.Desk.{Desk}
 use Rattle.iso_types.specs.declared.value.Conn.{Conn}
+use Rattle.iso_types.specs.declared.value.Rid.{Rid}
+use Rattle.iso_types.specs.declared.value.Value.{Value}
 use Rattle.iso_uow.specs.Book.{debt_of}
 use Rattle.iso_state.proofs.ByKind.{full-is, ready-allowed}
-use Rattle.iso_state.proofs.Desks.{IsSameSeat, claims-own, seat-kept}
-use Rattle.iso_state.proofs.FactsAlong.{apart-of, debt-of, within-of}
-use Rattle.iso_state.proofs.Steps.{conn-is, own-desk, own-step, step-stands}
-use Rattle.iso_state.specs.Changes.{entered, repaced, stepped, unclaimed}
-use Rattle.iso_state.specs.Stands.{Content, Stands, StandsFor, content_of, desk_at, is_claimed, world_of}
+use Rattle.iso_history.proofs.Snoc.{Ground-snoc, world-snoc}
+use Rattle.iso_history.proofs.limits.Totals.{totals-after}
+use Rattle.iso_state.proofs.Desks.{IsSameSeat, claims-own, desks-set, others-kept, seat-kept}
+use Rattle.iso_state.proofs.FactsAlong.{apart-of, debt-of, none_left-of, within-of}
+use Rattle.iso_state.proofs.Steps.{conn-is, own-desk}
+use Rattle.iso_state.specs.Changes.{entered, reentered, repaced, stepped, unclaimed}
+use Rattle.iso_state.specs.Stands.{Content, IsDeskOf, Stands, StandsFor, content_of, desk_at, is_claimed, world_of}
 use Rattle.iso_state.specs.Steps.{IsReady, is_past}
 use Rattle.iso_state.specs.declared.parts.Parts.{Parts}
 use Rattle.iso_writes.specs.Changing.{is_change}
@@ -114,6 +120,47 @@ change-room p c a old new log_new s kind al room push log =
     owes : (b d x y k new : ℕ) → b + y ≡ d + x → x ≡ 1 → y ≡ 0 → k ≡ d → k + 1 ≤ new → b ≤ new
     owes b d x y k new e f g h le = omega (arith, e, f, g, h, le)
 
+-- what a change has to show of what it writes: the slots, log and units, the pairs of the indexes, the lock list, and its desk
+pub record IsWritten (p : Content) (c : Conn) (a : Act) (k : Chained) (l : Ledger) (es : List (List (Value × Rid))) (d : Desk) (n : ℕ) : Type 0 where
+  pub chain : AreChained (after p.head (world p.head p.history) (by_agent c a)) k
+  pub works : length k.book.works ≡ length p.chain.book.works
+  pub entries : (after p.head (world p.head p.history) (by_agent c a)).entries ≡ es
+  pub locks : LocksAre (after p.head (world p.head p.history) (by_agent c a)).holds (after p.head (world p.head p.history) (by_agent c a)).waits l
+  pub limits : IsSameLimits l p.locks
+  pub desk : IsDeskOf (after p.head (world p.head p.history) (by_agent c a)) c d
+  pub reserved : n + reserves_less (world p.head p.history) (Agent c) a ≡ p.reserved + reserves_more (world p.head p.history) (Agent c) a
+
+same-sum : (n r a b less more : ℕ) → n + less ≡ r + more → b + less ≡ a + more → r ≡ a → n ≡ b
+same-sum n r a b less more e f g = omega (arith, e, f, g)
+
+-- then the content stands for the history with its entry
+change-stands : (p : Content) (c : Conn) (a : Act) (k : Chained) (l : Ledger) (es : List (List (Value × Rid))) (d : Desk) (n : ℕ) → Stands p
+    → Allowed p.head (world p.head p.history) (by_agent c a) → IsWritten p c a k l es d n
+    → Stands (repaced (reentered (stepped p k l (slice_set p.desks c.0 d) n (by_agent c a)) es) (pace_by p.pace (Agent c) a))
+change-stands p c a k l es d n s al i =
+    let w = world p.head p.history in
+    let sums = (totals-after p.head w (by_agent c a) al (apart-of s) (within-of s).course (none_left-of s)).reserves_move in
+    record {
+      parts = rw (world-snoc p.head p.history (by_agent c a)) (record {
+        chain = i.chain;
+        entries = sym i.entries;
+        pace = ap (λ (q : Pace). pace_by q (Agent c) a) s.parts.pace;
+        locks = i.locks;
+        desks = desks-set (after p.head w (by_agent c a)) w p.desks c d i.desk (λ e x ne is. others-kept p.head w c a e x ne is) s.parts.desks;
+        reserved = same-sum n p.reserved (reserves p.head w) _ _ _ i.reserved sums s.parts.reserved;
+      });
+      conns = length-set p.desks c.0 d ∙ s.conns;
+      works = i.works ∙ s.works;
+      limits = record {
+        share = i.limits.share ∙ s.limits.share;
+        slots = i.limits.slots ∙ s.limits.slots;
+        index_tables = i.limits.index_tables ∙ s.limits.index_tables;
+      };
+      bounds = s.bounds;
+      fits = s.fits;
+      ground = Ground-snoc p.head p.history (by_agent c a) s.ground al;
+    }
+
 -- As a step meets it: `o` are the parts as it finds them, `p` those with room for the entry, `q` those that it leaves.
 module _ (o p q : Parts) (k : Chained) (l : Ledger) (c : Conn) (a : Act) (s : StandsFor p) (same : content_of p ≡ content_of o)
     (free : (world_of o).pace.finished ≡ false) (lt : c.0 < length o.head.conns) (ready : IsReady p 2)
@@ -134,37 +181,33 @@ module _ (o p q : Parts) (k : Chained) (l : Ledger) (c : Conn) (a : Act) (s : St
       let none = b.less in
       ready-allowed (content_of p) (Agent c) a 2 s.stands free-now (conn-is p.head c lt-now, by-now) b.refused (omega (arith, one, none)) ready.fits
 
-  pub change-place : p.history.spare ≤ q.history.spare + 1 → debt_of p.units.works + 1 ≤ q.log.spare
+  pub change-place : (es : List (List (Value × Rid))) → p.history.spare ≤ q.history.spare + 1 → debt_of p.units.works + 1 ≤ q.log.spare
       → AreChained (after p.head (world_of p) (by_agent c a)) k → length k.book.works ≡ length p.units.works
-      → (after p.head (world_of p) (by_agent c a)).entries ≡ (world_of p).entries
+      → (after p.head (world_of p) (by_agent c a)).entries ≡ es
       → LocksAre (after p.head (world_of p) (by_agent c a)).holds (world_of p).waits l → IsSameLimits l p.locks
-      → content_of q ≡ entered (record (content_of p) { chain = k; locks = l; reserved = p.reserved + 1 }) c (by_agent c a)
+      → content_of q ≡ entered (record (content_of p) { chain = k; entries = es; locks = l; reserved = p.reserved + 1 }) c (by_agent c a)
       → StandsFor q
-  change-place push log chain works entries are limits wrote =
-      let b = change-is p.head (world_of p) c a kind in
+  change-place es push log chain works entries are limits wrote =
+      let w = world_of p in
+      let b = change-is p.head w c a kind in
       let one = b.more in
       let none = b.less in
       rw wrote (record {
-        stands = subst (λ (x : Pace). Stands (repaced (stepped (content_of p) k l (slice_set p.desks c.0 (unclaimed (desk_at p.desks c))) (p.reserved + 1)
-            (by_agent c a)) x))
+        stands = subst (λ (x : Pace). Stands (repaced (reentered (stepped (content_of p) k l (slice_set p.desks c.0 (unclaimed (desk_at p.desks c)))
+            (p.reserved + 1) (by_agent c a)) es) x))
             (calm-pace (content_of p).pace c a b.calm)
-            (step-stands (content_of p) (by_agent c a) k l _ (p.reserved + 1) s.stands change-allowed
-            (own-step (content_of p) c a k l (unclaimed (desk_at p.desks c)) (p.reserved + 1) s.stands (record {
+            (change-stands (content_of p) c a k l es (unclaimed (desk_at p.desks c)) (p.reserved + 1) s.stands change-allowed (record {
               chain = chain;
               works = works;
               entries = entries;
               locks = rw b.waits are;
               limits = limits;
-              desk = seat-kept (world_of p) (after p.head (world_of p) (by_agent c a)) c (desk_at p.desks c) false b.seat
-                  (sym b.unclaimed_is ∙ claims-own (world_of p) c a) (own-desk (content_of p) c (desk_at p.desks c) s.stands lt-now refl);
+              desk = seat-kept w (after p.head w (by_agent c a)) c (desk_at p.desks c) false b.seat
+                  (sym b.unclaimed_is ∙ claims-own w c a) (own-desk (content_of p) c (desk_at p.desks c) s.stands lt-now refl);
               reserved = omega (arith, one, none);
-            })));
+            }));
         room = change-room (content_of p) c a p.history.spare q.history.spare q.log.spare s.stands kind change-allowed ready.spare push log;
       })
-
--- the head is the same
-pub plain-now : (o p : Parts) → content_of p ≡ content_of o → length o.head.indexes ≡ 0 → length p.head.indexes ≡ 0
-plain-now o p same e = subst (λ (x : Content). length x.head.indexes ≡ 0) (sym same) e
 
 -- Where `make_room` says that a change is past the limit, its entry is full.
 pub change-full : (p : Parts) (c : Conn) (a : Act) → StandsFor p → (world_of p).pace.finished ≡ false → c.0 < length p.head.conns

@@ -1,10 +1,14 @@
 pub mod ChangeSteps
 pub mod Rows
-pub mod Plain
-pub mod Insertions
-pub mod InsertSteps
 mod Judged
+mod Pairs
+mod Keyed
+mod Asked
 pub mod SlotReads
 pub mod Walks
 pub mod Firsts
 pub mod Numbered
+mod Writable
+mod Taken
+mod RowSteps
+mod Blocked

@@ -5,7 +5,7 @@ use Rattle.std.specs.Prelude.{None, Some, Option, ◌==◌, slice_get}
 use Rattle.iso_chain.proofs.Chains.{chain-shows}
 use Rattle.iso_chain.proofs.Records.{AllBack, all-back}
 use Rattle.iso_chain.specs.Logs.{record_at}
-use Rattle.iso_chain.specs.Slots.{SlotStands, face, slot_in, slots_of}
+use Rattle.iso_chain.specs.Slots.{SlotStands, face, slot_in}
 use Rattle.iso_history.specs.After.{world}
 use Rattle.iso_history.specs.Piles.{AllOfUnit, AllOneUnit, AllPiled, NonePending, OneUnit, Piled}
 use Rattle.iso_history.specs.Units.{unit_of}

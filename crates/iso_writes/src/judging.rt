@@ -23,15 +23,6 @@ pub fn is_delete_past(parts: &Parts, conn: Conn) -> bool
     is_log_full(parts)
 }
 
-/// Whether an update is past the log. Over a head without an index it needs no lock, and has no key that could be in its way.
-pub fn is_update_past(parts: &Parts, conn: Conn, table: TableId, rid: Rid, row: &Row) -> bool
-    requires stands { StandsFor parts.now }
-    requires plain { length parts.now.head.indexes ≡ 0 } // keys come next
-    ensures { past_or_done result ≡ updates parts.now.head (world_of parts.now) conn table rid row.now }
-{
-    is_log_full(parts)
-}
-
 /// Whether the table has all its slots.
 fn is_table_full(parts: &Parts, table: TableId) -> bool
     requires stands { StandsFor parts.now }

@@ -35,7 +35,7 @@ pub fn is_unique(head: &Head, index: IndexId) -> bool
 }
 
 /// The row's value in the column, NULL where there is none.
-fn value_in(row: &[Value], column: u8) -> Value
+pub fn value_in(row: &[Value], column: u8) -> Value
     ensures { result ≡ slice_index_or row.now column kinds.Null }
 {
     match row.get(column as usize) {

@@ -3,12 +3,15 @@
 
 mod changing;
 mod coming;
+mod hindered;
 mod indexes;
 mod judging;
+mod keying;
 mod keys;
 mod rivals;
 mod slots;
 mod steps;
+mod taking;
 mod writing;
 
 pub use coming::Written;

@@ -6,13 +6,14 @@ ghost use Rattle.iso_history.specs.Writes.{deletes, inserts, is_refusal, may_cha
 ghost use Rattle.iso_history.specs.Writes.Written.{Done as IsDone};
 ghost use Rattle.iso_history.specs.Versions.{next_rid};
 ghost use Rattle.iso_types.specs.Head.{row_fits};
+ghost use Rattle.iso_state.specs.Changes.{relocked};
 ghost use Rattle.iso_state.specs.Stands.{StandsFor, content_of, world_of};
 
-use crate::changing::{copy_of, next_slot, write_deleted, write_inserted, write_updated};
+use crate::changing::{Into, copy_of, next_slot, write_deleted};
+use crate::taking::{asks_for, row_ask, write_locked};
 use iso_history::{Act, Entry, Who};
-use iso_modes::{Mode, Term};
-use iso_state::{Parts, enter, make_room, place};
-use iso_types::{Conn, Name, Rid, Row, StepFault, TableId};
+use iso_state::{Parts, enter, make_room};
+use iso_types::{Conn, Rid, Row, StepFault, TableId};
 use std::alloc::Global;
 
 /// Makes the entry of a deletion that is done.
@@ -39,7 +40,8 @@ pub fn make_delete(parts: &mut Parts, conn: Conn, table: TableId, rid: Rid) -> R
     Ok(())
 }
 
-/// Makes the entry of an update that is done.
+/// Makes the entry of an update that is done: the row has its keys in the indexes, and the connection S on the keys that
+/// inherit it. After a fault all is as before, but that the lock list may keep the same holds and waits in another way.
 pub fn make_update(
     alloc: Global,
     parts: &mut Parts,
@@ -55,17 +57,25 @@ pub fn make_update(
     requires may { may_change parts.old.head (world_of parts.old) conn table rid ≡ true }
     requires row { row_fits parts.old.head table row.now ≡ true }
     requires outcome { updates parts.old.head (world_of parts.old) conn table rid row.now ≡ IsDone }
-    requires plain { length parts.old.head.indexes ≡ 0 } // keys come next
     ensures stands { StandsFor parts.new }
     ensures head { parts.new.head ≡ parts.old.head }
     ensures full { result ≡ Err StepFault.HistoryFull → is_full parts.old.head (world_of parts.old) (by_agent conn (Act.Update table rid row.now)) ≡ true }
     ensures ok { OnOk result (parts.new.history.items ≡ parts.old.history.items ++ by_agent conn (Act.Update table rid row.now) ∷ []) }
-    ensures err { OnErr result (content_of parts.new ≡ content_of parts.old) }
+    ensures err { OnErr result (content_of parts.new ≡ relocked (content_of parts.old) parts.new.locks) }
 {
     make_room(parts, 2)?;
     let told = copy_of(alloc, row)?;
-    write_updated(alloc, parts, conn, table, rid, row)?;
-    parts.locks.settle(conn, None);
+    let asks = asks_for(alloc, parts, conn, table, row, None)?;
+    write_locked(
+        alloc,
+        parts,
+        conn,
+        asks.as_slice(),
+        Into::Slot,
+        table,
+        rid,
+        row,
+    )?;
     parts.reserved += 1; // the undo of the update
     let who = Who::Agent(conn);
     let act = Act::Update {
@@ -77,8 +87,9 @@ pub fn make_update(
     Ok(())
 }
 
-/// Makes the entry of an insertion that is done: the row has the table's next slot, and the connection X on it. After a fault
-/// the state stands for the same history, and its lock list for the same holds and waits.
+/// Makes the entry of an insertion that is done: the row has the table's next slot and its keys in the indexes, and the
+/// connection X on it and S on the keys that inherit it. After a fault all is as before, but that the lock list may keep the
+/// same holds and waits in another way.
 pub fn make_insert(
     alloc: Global,
     parts: &mut Parts,
@@ -93,26 +104,27 @@ pub fn make_insert(
     requires may { may_write (world_of parts.old) conn table ≡ true }
     requires row { row_fits parts.old.head table row.now ≡ true }
     requires outcome { inserts parts.old.head (world_of parts.old) conn table row.now ≡ IsDone }
-    requires plain { length parts.old.head.indexes ≡ 0 } // keys come next
     ensures stands { StandsFor parts.new }
     ensures head { parts.new.head ≡ parts.old.head }
     ensures full { result ≡ Err StepFault.HistoryFull → is_full parts.old.head (world_of parts.old) (by_agent conn (Act.Insert table (next_rid (world_of parts.old) table) row.now)) ≡ true }
     ensures ok { OnOk result (parts.new.history.items ≡ parts.old.history.items ++ by_agent conn (Act.Insert table (next_rid (world_of parts.old) table) row.now) ∷ []) }
-    ensures err { OnErr result (parts.new.history.items ≡ parts.old.history.items) }
+    ensures err { OnErr result (content_of parts.new ≡ relocked (content_of parts.old) parts.new.locks) }
 {
     make_room(parts, 2)?;
     let told = copy_of(alloc, row)?;
     let rid = next_slot(parts, table);
-    let name = Name::Row(table, rid);
-    place(parts, conn, &name, Mode::X, Term::Kept)?;
-    match write_inserted(alloc, parts, conn, table, row) {
-        Ok(()) => {}
-        Err(fault) => {
-            parts.locks.release(conn, name);
-            return Err(fault);
-        }
-    }
-    parts.locks.settle(conn, Some(name));
+    let first = row_ask(parts, conn, table, rid);
+    let asks = asks_for(alloc, parts, conn, table, row, first)?;
+    write_locked(
+        alloc,
+        parts,
+        conn,
+        asks.as_slice(),
+        Into::NewSlot,
+        table,
+        rid,
+        row,
+    )?;
     parts.reserved += 1; // the undo of the insertion
     let who = Who::Agent(conn);
     let act = Act::Insert {

@@ -2,7 +2,6 @@ use Rattle.std.proofs.Common.{◌∙◌, ◌-◌, ap, refl, false}
 use Rattle.iso_history.specs.declared.entry.Act.TheVariants.{Lock}
 use Rattle.iso_history.specs.declared.entry.Entry.{Entry}
 use Rattle.iso_history.specs.declared.entry.Got.{Got}
-use Rattle.iso_modes.specs.declared.Term.TheVariants.{Kept}
 use Rattle.iso_types.specs.declared.desk.Desk.{Desk}
 use Rattle.iso_types.specs.declared.desk.Phase.TheVariants.{Rolling}
 use Rattle.iso_state.specs.Changes.{seated}
@@ -16,7 +15,7 @@ returns-clause-stands c =
     let p = c.make_room.new.parts in
     let l = c.settle.new.self in
     let q : Content = record (content_of p) { locks = l; reserved = p.reserved - 1 } in
-    timed_out-place o p c.move_to.new.parts l c.args.conn (Lock c.args.name.now c.args.mode Kept c.args.why Got.TimedOut)
+    timed_out-place o p c.move_to.new.parts l c.args.conn (Lock c.args.name.now c.args.mode c.args.term c.args.why Got.TimedOut)
     c.in_ok-make_room.ensures.stands c.in_ok-make_room.ensures.same c.move_to.ensures.spends c.requires.open c.requires.conn
     c.in_ok-make_room.ensures.ready c.requires.runs.0
     (c.requires.runs, c.requires.by)
@@ -30,6 +29,6 @@ returns-clause-stands c =
 pub returns-in_err-make_room-clause-full : goal.returns-in_err-make_room-clause-full
 returns-in_err-make_room-clause-full c =
     let o = c.args.parts.now in
-    λ e. timed_out-full o c.args.conn (Lock c.args.name.now c.args.mode Kept c.args.why Got.TimedOut) c.requires.stands c.requires.open c.requires.conn
+    λ e. timed_out-full o c.args.conn (Lock c.args.name.now c.args.mode c.args.term c.args.why Got.TimedOut) c.requires.stands c.requires.open c.requires.conn
     (c.requires.runs, c.requires.by)
     refl (c.make_room.ensures.full (fault-was _ _ _ _ c.in_err-make_room.was c.from_residual.ensures.1 e))

@@ -34,10 +34,10 @@ returns-clause-stands c =
     let lt = lt-now o p q k l c.args.conn a s same c.requires.open c.requires.conn c.in_ok-make_room.ensures.ready by refl in
     let al = change-allowed o p q k l c.args.conn a s same c.requires.open c.requires.conn c.in_ok-make_room.ensures.ready by refl in
     change-place o p q k l c.args.conn a s same c.requires.open c.requires.conn c.in_ok-make_room.ensures.ready by refl
-    (omega (arith, room.history, spends.history)) (omega (arith, room.log, spends.log))
+    (content_of p).entries (omega (arith, room.history, spends.history)) (omega (arith, room.log, spends.log))
     (delete-chained p.head (world_of p) (content_of p).chain c.args.conn c.args.table c.args.rid s.parts.chain (kept-of s.stands)
     (work-there s.stands c.args.conn lt) (may-delete p.head (world_of p) (sound-of s.stands) c.args.conn c.args.table c.args.rid (log_sound-of s.stands) al))
-    (length-set p.units.works c.args.conn.0 _) refl
+    (length-set p.units.works c.args.conn.0 _) (sym s.parts.entries)
     (c.settle.ensures.lists (world_of p).holds (world_of p).waits
     (subst (λ (x : Ledger). LocksAre (world_of p).holds (world_of p).waits x) (sym locks) s.parts.locks))
     (subst (λ (x : Ledger). IsSameLimits l x) locks c.settle.ensures.limits)

@@ -3,7 +3,7 @@ use Rattle.iso_locks.specs.declared.locking.Answer.{Answer}
 use Rattle.iso_state.specs.Stands.{world_of}
 use Rattle.iso_writes.proofs.Judged.{limit-answer, limit-comes}
 use Rattle.iso_writes.specs.Answers.{comes_at_limit, limited}
-use Rattle.iso_writes.proofs.steps.limit.Goals as goal
+use Rattle.iso_writes.proofs.hindered.limit.Goals as goal
 
 pub limited-requires : goal.limited-requires
 limited-requires c =
