@@ -14,7 +14,6 @@ pub mod Doomed
 pub mod Wants
 pub mod Turning
 pub mod LookStepping
-pub mod BlockedWaits
 pub mod WriteStepping
 pub mod Undoing
 pub mod Quieting
