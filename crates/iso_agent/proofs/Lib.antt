@@ -4,6 +4,7 @@ pub mod Finished
 pub mod Pinned
 pub mod Stepping
 pub mod ScanSteps
+pub mod ScanLooks
 pub mod LookMade
 pub mod ScansBegin
 pub mod ScansAlong
@@ -13,7 +14,6 @@ pub mod Doomed
 pub mod Wants
 pub mod Turning
 pub mod LookStepping
-pub mod BlockedWaits
 pub mod WriteStepping
 pub mod Undoing
 pub mod Quieting

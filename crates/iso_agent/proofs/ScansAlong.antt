@@ -3,7 +3,8 @@ use Rattle.std.proofs.Common.{◌≡◌, inl, inr, ℕ, Bool, true, false, ◌||
 use Rattle.std.specs.List.{list_all, list_any}
 use Rattle.std.specs.Option.{option_map}
 use Rattle.iso_agent.proofs.LookMade.{IsScanStep, heard-shows, made-look, steps_scan}
-use Rattle.iso_agent.proofs.ScanSteps.{IsLater, found-sound, looking, shown-sound, sound-later, tells_scan, told-sound, walking}
+use Rattle.iso_agent.proofs.ScanLooks.{IsLater, looking, shown-sound, sound-later, walking}
+use Rattle.iso_agent.proofs.ScanSteps.{found-sound, tells_scan, told-sound}
 use Rattle.iso_agent.proofs.ScansBegin.{start-sound, statement-sound}
 use Rattle.iso_agent.specs.Scans.{IsSoundPoint}
 use Rattle.iso_conduct.proofs.FrontsAlong.{may-made}

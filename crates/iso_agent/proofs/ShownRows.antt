@@ -2,7 +2,7 @@
 use Rattle.std.proofs.Common.{◌≡◌, ◌≤◌, ◌<◌, ◌+◌, ℕ, Bool, true, false, List, [], ◌∷◌, refl, sym, ap, subst, Option, Some, arith, if◌then◌else◌}
 use Rattle.std.proofs.lemmas.Bool.{eqb-true}
 use Rattle.std.specs.Prelude.{◌==◌}
-use Rattle.iso_agent.proofs.ScanSteps.{IsLooking}
+use Rattle.iso_agent.proofs.ScanLooks.{IsLooking}
 use Rattle.iso_agent.specs.Scans.{IsSoundPoint, is_scanned}
 use Rattle.iso_conduct.proofs.Fitting.{reads-fit, row-long}
 use Rattle.iso_conduct.specs.Courses.{MayTell, fits_table, haul_size, key_within, keyed_within, reads_within, scan_slot, suits}

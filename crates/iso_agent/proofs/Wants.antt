@@ -2,7 +2,8 @@
 use Rattle.std.proofs.Common.{◌≡◌, inl, inr, ◌≤◌, Bool, true, false, ◌||◌, ◌&&◌, List, [], ◌∷◌, refl, sym, subst}
 use Rattle.std.specs.List.{list_any}
 use Rattle.iso_agent.proofs.LookMade.{IsScanStep, heard-shows, made-look, steps_scan}
-use Rattle.iso_agent.proofs.ScanSteps.{looking, tells_scan}
+use Rattle.iso_agent.proofs.ScanLooks.{looking}
+use Rattle.iso_agent.proofs.ScanSteps.{tells_scan}
 use Rattle.iso_agent.proofs.ShownRows.{may-tell-shown}
 use Rattle.iso_agent.specs.Fits.{CanTell, wants}
 use Rattle.iso_agent.specs.Scans.{IsSoundPoint}

@@ -1,6 +1,5 @@
 -- What is kept of a write's answer is what its statement hears of the entry.
 use Rattle.std.proofs.Common.{◌≡◌, ℕ, Bool, true, false, List, [], ◌∷◌, ◌++◌, refl, sym, ap, ◌∙◌, subst, Option, Some, None, append-nil, if◌then◌else◌}
-use Rattle.iso_agent.proofs.BlockedWaits.{block-waits}
 use Rattle.iso_agent.proofs.Stepping.{goes, limit-ends, limit-kept, lock-pins, waits-now}
 use Rattle.iso_agent.specs.Steps.{HasStepped, keeps, kept_of_lock, stepped_of_write}
 use Rattle.iso_agent.specs.declared.stepped.Stepped.TheVariants.{Goes}
@@ -26,6 +25,7 @@ use Rattle.iso_history.specs.declared.entry.Act.{Act}
 use Rattle.iso_history.specs.declared.entry.Entry.{Entry}
 use Rattle.iso_history.specs.declared.entry.Got.{Got}
 use Rattle.iso_history.specs.declared.entry.Why.TheVariants.{Blocked}
+use Rattle.iso_locks.proofs.Blocks.{never-granted}
 use Rattle.iso_locks.specs.Answers.{answer_of as lock_answer}
 use Rattle.iso_modes.specs.declared.Mode.{Mode}
 use Rattle.iso_modes.specs.declared.Mode.TheVariants.{Ns, Nw}
@@ -99,7 +99,7 @@ module _ (head : Head) (es new : List Entry) (c : Conn) (runs : phase (world hea
   fits-wait s t may Done f = tt
   fits-wait s t may IsFull f = tt
   fits-wait s t may (Refuses code) f = tt
-  fits-wait s t may (Blocks n m) f = block-waits head w c n m s f.0 f.1
+  fits-wait s t may (Blocks n m) f = never-granted head w s c n m f.0 f.1
   fits-wait s t may AtLimit f = tt
 
   -- the step of a write, by what comes of it

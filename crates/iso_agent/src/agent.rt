@@ -113,7 +113,6 @@ impl Agent {
     fn go_on(&mut self, alloc: Global, script: &Script, parts: &mut Parts, task: Task)
         requires stands { StandsFor parts.old }
         requires open { (world_of parts.old).pace.finished ≡ false }
-        requires plain { length parts.old.head.indexes ≡ 0 } // keys come next
         requires head { parts.old.head ≡ script.now.head }
         requires sound { IsSound script.now }
         requires conn { self.old.conn.0 < length parts.old.head.conns }
@@ -145,7 +144,6 @@ impl Agent {
     fn go(&mut self, alloc: Global, script: &Script, parts: &mut Parts)
         requires stands { StandsFor parts.old }
         requires open { (world_of parts.old).pace.finished ≡ false }
-        requires plain { length parts.old.head.indexes ≡ 0 } // keys come next
         requires head { parts.old.head ≡ script.now.head }
         requires sound { IsSound script.now }
         requires conn { self.old.conn.0 < length parts.old.head.conns }
@@ -169,7 +167,6 @@ impl Agent {
     fn run(&mut self, alloc: Global, script: &Script, parts: &mut Parts)
         requires stands { StandsFor parts.old }
         requires open { (world_of parts.old).pace.finished ≡ false }
-        requires plain { length parts.old.head.indexes ≡ 0 } // keys come next
         requires head { parts.old.head ≡ script.now.head }
         requires sound { IsSound script.now }
         requires conn { self.old.conn.0 < length parts.old.head.conns }
@@ -195,7 +192,6 @@ impl Agent {
     /// of the statement. (This project's own.)
     pub fn make(&mut self, alloc: Global, script: &Script, parts: &mut Parts) -> Turned
         requires stands { StandsFor parts.old }
-        requires plain { length parts.old.head.indexes ≡ 0 } // keys come next
         requires head { parts.old.head ≡ script.now.head }
         requires sound { IsSound script.now }
         requires conn { self.old.conn.0 < length script.now.head.conns }

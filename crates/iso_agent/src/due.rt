@@ -25,7 +25,6 @@ pub fn step_due(alloc: Global, parts: &mut Parts, conn: Conn, task: &mut Task) -
     requires stands { StandsFor parts.old }
     requires open { (world_of parts.old).pace.finished ≡ false }
     requires conn { conn.0 < length parts.old.head.conns }
-    requires plain { length parts.old.head.indexes ≡ 0 } // keys come next
     requires may { MayGoOn parts.old.head (world_of parts.old) conn task.old }
     requires loud { quiet (world_of parts.old) conn (due task.old) ≡ None }
     requires scans { ScansWithin parts.old.head (world_of parts.old) task.old }

@@ -47,7 +47,6 @@ pub fn make_insert(
     requires runs { Runs (world_of parts.old) conn }
     requires may { may_write (world_of parts.old) conn table ≡ true }
     requires row { row_fits parts.old.head table row.now ≡ true }
-    requires plain { length parts.old.head.indexes ≡ 0 } // keys come next
     ensures stands { StandsFor parts.new }
     ensures head { parts.new.head ≡ parts.old.head }
     ensures stepped { HasStepped parts.old.head parts.old.history.items parts.new.history.items conn (written_by parts.old.head (world_of parts.old) conn (acts.Insert table (next_rid (world_of parts.old) table) row.now) (inserts parts.old.head (world_of parts.old) conn table row.now)) result }
@@ -73,7 +72,6 @@ pub fn make_update(
     requires runs { Runs (world_of parts.old) conn }
     requires may { may_change parts.old.head (world_of parts.old) conn table rid ≡ true }
     requires row { row_fits parts.old.head table row.now ≡ true }
-    requires plain { length parts.old.head.indexes ≡ 0 } // keys come next
     ensures stands { StandsFor parts.new }
     ensures head { parts.new.head ≡ parts.old.head }
     ensures stepped { HasStepped parts.old.head parts.old.history.items parts.new.history.items conn (written_by parts.old.head (world_of parts.old) conn (acts.Update table rid row.now) (updates parts.old.head (world_of parts.old) conn table rid row.now)) result }
