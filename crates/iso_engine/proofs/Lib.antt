@@ -1,4 +1,4 @@
-pub mod Words
 pub mod Stops
 pub mod Outcomes
 pub mod Complete
+pub mod Aims

@@ -1,27 +1,25 @@
 -- The words of the command line, and what a run of the program answers and writes.
-use Rattle.std.specs.Prelude.{◌≡◌, ℕ, ◌≤◌, ◌⊎◌, List, [], ◌∷◌, ◌++◌, length, None, Option, Some, String, codes, string_bytes, map}
+use Rattle.std.specs.Prelude.{◌≡◌, ℕ, ◌≤◌, ◌⊎◌, List, [], ◌∷◌, ◌++◌, length, None, Bool, if◌then◌else◌, Option, Some, codes}
 use Rattle.std.specs.Fmt.{decimal}
-use Rattle.std.specs.Global.{Global}
 use Rattle.std.specs.Io.KnownBytes.{Appends, IsAtEnd}
 use Rattle.iso_conduct.specs.Legal.{AreGuarded, IsFinished, IsLegal}
 use Rattle.iso_conduct.specs.Schedule.{Scheduled}
 use Rattle.iso_conduct.specs.Whole.{IsWhole}
 use Rattle.iso_engine.specs.Stopping.{status_of}
+use Rattle.iso_engine.specs.declared.job.Aim.{Aim}
+use Rattle.iso_engine.specs.declared.job.Aim.TheVariants.{Count, Run}
 use Rattle.iso_history.specs.declared.entry.Entry.{Entry}
+use Rattle.iso_words.specs.declared.parts.Job.{Job}
+use Rattle.iso_words.specs.declared.parts.Job.TheVariants.{Check, Serial}
 use Rattle.iso_io.specs.Moves.{AppendsPart}
-use Rattle.iso_render.specs.Transcript.{transcript}
+use Rattle.iso_generate.specs.Generated.{generated}
+use Rattle.iso_render.specs.Outputs.{count_text, output_text}
+use Rattle.iso_render.specs.declared.outputs.Output.{Output}
+use Rattle.iso_render.specs.declared.outputs.Output.TheVariants.{Summary, Traced, Transcript}
 use Rattle.iso_script.specs.Reading.{bad, place_at, reads, word_of}
 use Rattle.iso_script.specs.declared.fault.LineCause.{LineCause}
 use Rattle.iso_script.specs.declared.fault.LineCause.TheVariants as cause
 use Rattle.iso_script.specs.declared.script.Script.{Script}
-
--- the texts of the words
-abbrev pub texts : List (String Global) → List (List ℕ)
-texts words = map string_bytes words
-
--- the words are a row of the table of jobs: at this stage the one word `serial`
-abbrev pub IsRow : List (List ℕ) → Type 0
-IsRow words = words ≡ codes "serial" ∷ []
 
 -- what other words are answered
 abbrev pub usage : List ℕ
@@ -62,9 +60,32 @@ TellsRun text history status old new =
     ((status ≡ status_of history) × Appends old new text) ⊎ (((status ≡ 4) × AppendsPart old new text) ⊎ ((status ≡ 5) × Appends old new []))
 
 -- what a run of the script leaves: the history and what is written of it; or nothing, where memory was wanting before its first entry
-abbrev pub IsTold : Script → ℕ → List Entry → Option (List ℕ) → Option (List ℕ) → Type 0
-IsTold script status history old new =
-    (IsRunOf script history × TellsRun (transcript script history) history status old new) ⊎ ((history ≡ []) × (status ≡ 5) × Appends old new [])
+abbrev pub IsTold : Output → Script → ℕ → List Entry → Option (List ℕ) → Option (List ℕ) → Type 0
+IsTold output script status history old new =
+    (IsRunOf script history × TellsRun (output_text output script history) history status old new) ⊎ ((history ≡ []) × (status ≡ 5) × Appends old new [])
+
+-- a text is written without a run: whole with status 0, in part where the sink failed, or not at all where there was no memory for it
+abbrev pub IsSaid : List ℕ → ℕ → List Entry → Option (List ℕ) → Option (List ℕ) → Type 0
+IsSaid text status history old new =
+    (history ≡ []) × (((status ≡ 0) × Appends old new text) ⊎ (((status ≡ 4) × AppendsPart old new text) ⊎ ((status ≡ 5) × Appends old new [])))
+
+-- a script is only read: the number of its lines is written
+abbrev pub IsCounted : Script → ℕ → List Entry → Option (List ℕ) → Option (List ℕ) → Type 0
+IsCounted script status history old new = IsSaid (count_text script) status history old new
+
+-- the output of the job `serial`
+abbrev pub output_of : Bool → Output
+output_of trace = if trace then Traced else Transcript
+
+-- what the job `mix` leaves: the script that the seed makes was run, and its summary written; or memory was wanting before its first entry
+abbrev pub IsMixed : ℕ → ℕ → ℕ → List Entry → Option (List ℕ) → Option (List ℕ) → Type 0
+IsMixed seed count status history old new =
+    ((script : Script) × reads (generated seed count) script × IsTold Summary script status history old new)
+    ⊎ ((history ≡ []) × (status ≡ 5) × Appends old new [])
+
+-- what is made of a script that was read
+abbrev pub Telling : Type 1
+Telling = Script → ℕ → List Entry → Option (List ℕ) → Option (List ℕ) → Type 0
 
 -- the script was refused
 abbrev pub IsRefused : List ℕ → Option (List ℕ) → ℕ → List Entry → Option (List ℕ) → Option (List ℕ) → Type 0
@@ -75,15 +96,26 @@ IsRefused bytes left status history old new =
 abbrev pub IsUnread : ℕ → List Entry → Option (List ℕ) → Option (List ℕ) → Type 0
 IsUnread status history old new = ((status ≡ 3) ⊎ (status ≡ 5)) × (history ≡ []) × Appends old new []
 
--- the source was read to its end, and the script was run
-abbrev pub IsRun : List ℕ → Option (List ℕ) → ℕ → List Entry → Option (List ℕ) → Option (List ℕ) → Type 0
-IsRun bytes left status history old new =
-    IsAtEnd left × (length bytes ≤ 1048576) × (script : Script) × reads bytes script × IsTold script status history old new
+-- what is made of it by the aim of the job
+abbrev pub told_by : Aim → Telling
+told_by (Run output) = IsTold output
+told_by Count = IsCounted
+
+-- the aim of a job that reads a script
+abbrev pub aim_of : Option Job → Option Aim
+aim_of (Some (Serial trace)) = Some (Run (output_of trace))
+aim_of (Some Check) = Some Count
+aim_of _ = None
+
+-- the source was read to its end, and the script was run, or counted
+abbrev pub IsRun : Telling → List ℕ → Option (List ℕ) → ℕ → List Entry → Option (List ℕ) → Option (List ℕ) → Type 0
+IsRun Told bytes left status history old new =
+    IsAtEnd left × (length bytes ≤ 1048576) × (script : Script) × reads bytes script × Told script status history old new
 
 -- one of the three, of the bytes that were taken and of those that are left
-abbrev pub IsOutcome : List ℕ → Option (List ℕ) → ℕ → List Entry → Option (List ℕ) → Option (List ℕ) → Type 0
-IsOutcome bytes left status history old new =
-    IsRefused bytes left status history old new ⊎ (IsUnread status history old new ⊎ IsRun bytes left status history old new)
+abbrev pub IsOutcome : Telling → List ℕ → Option (List ℕ) → ℕ → List Entry → Option (List ℕ) → Option (List ℕ) → Type 0
+IsOutcome Told bytes left status history old new =
+    IsRefused bytes left status history old new ⊎ (IsUnread status history old new ⊎ IsRun Told bytes left status history old new)
 
 -- the bytes were judged as a script: its run began, or the answer is that of a script that was run
 abbrev pub IsJudged : ℕ → List Entry → Type 0
@@ -93,16 +125,16 @@ IsJudged status history = (history ≡ [] → ⊥) ⊎ ((status ≡ 0) ⊎ ((sta
 -- left. `headline`: whatever script they read as, where its run began, its history is legal, and the bytes written are its
 -- transcript. `refused`, `exact`: they are refused only where they are to be, with that text, and always there, but where the
 -- source failed or memory was wanting
-pub record IsAnswered (all : List ℕ) (left : Option (List ℕ)) (status : ℕ) (history : List Entry) (old new : Option (List ℕ)) : Type 0 where
+pub record IsAnswered (output : Output) (all : List ℕ) (left : Option (List ℕ)) (status : ℕ) (history : List Entry) (old new : Option (List ℕ)) : Type 0 where
   pub ended : IsJudged status history → left ≡ Some []
-  pub headline : (script : Script) → reads all script → (history ≡ [] → ⊥) → IsTold script status history old new
+  pub headline : (script : Script) → reads all script → (history ≡ [] → ⊥) → IsTold output script status history old new
   pub refused : status ≡ 2 → (text : List ℕ) × Refuses all text × AppendsPart old new text
   pub exact : (text : List ℕ) → Refuses all text → (status ≡ 2) ⊎ ((status ≡ 3) ⊎ (status ≡ 5))
 
 -- the source was read to its end, and all of the transcript is written; with status 0 every line is answered
-abbrev pub IsComplete : Script → ℕ → List Entry → Option (List ℕ) → Option (List ℕ) → Option (List ℕ) → Type 0
-IsComplete script status history left old new =
-    (left ≡ Some []) × Appends old new (transcript script history) × (((status ≡ 0) × IsWhole script history) ⊎ (status ≡ 6))
+abbrev pub IsComplete : Output → Script → ℕ → List Entry → Option (List ℕ) → Option (List ℕ) → Option (List ℕ) → Type 0
+IsComplete output script status history left old new =
+    (left ≡ Some []) × Appends old new (output_text output script history) × (((status ≡ 0) × IsWhole script history) ⊎ (status ≡ 6))
 
 -- bytes that are no more than a script may have, and read as this script
 abbrev pub IsScript : List ℕ → Script → Type 0

@@ -1,21 +1,27 @@
-ghost use Rattle.std.specs.Prelude.{◌≡◌, ℕ, ◌≤◌, ◌⊎◌, Some, Option, ◌↔◌, List, [], ◌∷◌, ◌++◌, string_bytes, length, true, IsTrue, IfOk, codes};
+ghost use Rattle.std.specs.Prelude.{◌≡◌, ℕ, ◌≤◌, ◌⊎◌, Some, None, Option, ◌↔◌, List, [], ◌∷◌, ◌++◌, string_bytes, length, true, IsTrue, IfOk, codes};
 ghost use Rattle.std.specs.Fmt.{decimal};
 ghost use Rattle.std.specs.Io.KnownBytes.{Appends, Consumes, IsAtEnd};
-ghost use Rattle.iso_engine.specs.Job.{IsAnswered, IsComplete, IsOutcome, IsRefusal, IsRow, IsScript, IsTold, TellsRefusal, IsWritten, refusal_at, texts, usage};
+ghost use Rattle.iso_engine.specs.Job.{IsAnswered, IsComplete, IsCounted, IsMixed, IsOutcome, IsRefusal, IsSaid, IsScript, IsTold, TellsRefusal, IsWritten, aim_of, output_of, refusal_at, told_by, usage};
 ghost use Rattle.iso_io.specs.Moves.{AppendsPart, HasRisen};
 ghost use Rattle.iso_script.specs.Reading.{place_at, word_of};
 ghost use Rattle.iso_script.specs.Sound.{IsSound};
 ghost use Rattle.iso_engine.specs.Stopping as stopping;
+ghost use Rattle.iso_generate.specs.Generated.{generated};
+ghost use Rattle.iso_words.specs.Table.{job_of, texts};
+ghost use Rattle.iso_words.specs.declared.parts.Job.TheVariants.{Generate, Mix};
+ghost use Rattle.iso_engine.specs.declared.job.Aim.TheVariants.{Run};
 ghost use Rattle.iso_history.specs.Paces.{is_stop};
 ghost use Rattle.iso_conduct.specs.Conduct.{stops_for_memory as is_memory_stop};
 ghost use Rattle.iso_script.specs.declared.script.Script.{Script as Program};
 
+use iso_generate::generate;
 use iso_history::{Act, Cause, Entry, History};
 use iso_io::{ReadFault, Sink, Source, read_script, write_whole};
-use iso_render::transcript;
+use iso_render::{Output, write_count, write_output};
 use iso_script::{LineCause, Script, ScriptFault};
 use iso_serial::run_serial;
 use iso_types::Gate;
+use iso_words::{Job, read_words};
 use std::alloc::{AllocError, Global};
 use std::sync::Wait;
 use std::thread::Threads;
@@ -25,16 +31,6 @@ use std::thread::Threads;
 pub struct Report {
     pub status: u8,
     pub history: History,
-}
-
-/// Whether the words name a job.
-fn is_row(words: &[String]) -> bool
-    ensures { IsTrue result ↔ IsRow (texts words.now) }
-{
-    match words {
-        [word] => word.as_str() == "serial",
-        _ => false,
-    }
 }
 
 /// The line of a refusal.
@@ -114,17 +110,27 @@ fn stops_for_memory(act: &Act) -> bool
     )
 }
 
-/// Runs a script and writes its transcript.
-fn run_script<K: Sink>(alloc: Global, script: &Script, sink: &mut K) -> Report
+/// What is made of a script that was read.
+#[derive(Clone, Copy)]
+enum Aim {
+    /// It is run, and this is written of the run.
+    Run(Output),
+    /// Its lines are counted.
+    Count,
+}
+
+/// Runs a script and writes what is to be written of the run.
+fn run_script<K: Sink>(alloc: Global, script: &Script, output: Output, sink: &mut K) -> Report
     requires sound { IsSound script.now }
-    ensures told { IsTold script.now result.status result.history.items (K.held sink.old) (K.held sink.new) }
+    ensures told { IsTold output script.now result.status result.history.items (K.held sink.old) (K.held sink.new) }
     ensures fault { result.status ≡ 4 → HasRisen (K.faults sink.old) (K.faults sink.new) }
+    ensures read { (result.status ≡ 3 → ⊥) × (result.status ≡ 2 → ⊥) }
 {
     let history = match run_serial(alloc, script) {
         Ok(history) => history,
         Err(_) => return without_run(5, alloc),
     };
-    let text = match transcript(alloc, script, &history) {
+    let text = match write_output(alloc, output, script, &history) {
         Ok(text) => text,
         Err(_) => return Report { status: 5, history },
     };
@@ -134,6 +140,43 @@ fn run_script<K: Sink>(alloc: Global, script: &Script, sink: &mut K) -> Report
             Report { status, history }
         }
         Err(_) => Report { status: 4, history },
+    }
+}
+
+/// Writes a text without a run.
+fn say<K: Sink>(alloc: Global, text: &[u8], sink: &mut K) -> Report
+    ensures said { IsSaid text.now result.status result.history.items (K.held sink.old) (K.held sink.new) }
+    ensures fault { result.status ≡ 4 → HasRisen (K.faults sink.old) (K.faults sink.new) }
+    ensures read { (result.status ≡ 3 → ⊥) × (result.status ≡ 2 → ⊥) }
+{
+    match write_whole(sink, text) {
+        Ok(()) => without_run(0, alloc),
+        Err(_) => without_run(4, alloc),
+    }
+}
+
+/// Writes how many lines a script has.
+fn say_count<K: Sink>(alloc: Global, script: &Script, sink: &mut K) -> Report
+    ensures told { IsCounted script.now result.status result.history.items (K.held sink.old) (K.held sink.new) }
+    ensures fault { result.status ≡ 4 → HasRisen (K.faults sink.old) (K.faults sink.new) }
+    ensures read { (result.status ≡ 3 → ⊥) × (result.status ≡ 2 → ⊥) }
+{
+    match write_count(alloc, script) {
+        Ok(text) => say(alloc, text.as_slice(), sink),
+        Err(_) => without_run(5, alloc),
+    }
+}
+
+/// Makes of a script what the job aims at.
+fn tell<K: Sink>(alloc: Global, script: &Script, aim: Aim, sink: &mut K) -> Report
+    requires sound { IsSound script.now }
+    ensures told { told_by aim script.now result.status result.history.items (K.held sink.old) (K.held sink.new) }
+    ensures fault { result.status ≡ 4 → HasRisen (K.faults sink.old) (K.faults sink.new) }
+    ensures read { (result.status ≡ 3 → ⊥) × (result.status ≡ 2 → ⊥) }
+{
+    match aim {
+        Aim::Run(output) => run_script(alloc, script, output, sink),
+        Aim::Count => say_count(alloc, script, sink),
     }
 }
 
@@ -151,30 +194,95 @@ fn refuse<K: Sink>(alloc: Global, line: u32, cause: LineCause, sink: &mut K) -> 
     }
 }
 
-/// Reads a script from its bytes, which are all that the source had, and runs it.
-fn run_bytes<K: Sink>(alloc: Global, bytes: &[u8], sink: &mut K) -> Report
+/// Reads a script from its bytes, which are all that the source had, and makes of it what the job aims at.
+fn tell_bytes<K: Sink>(alloc: Global, bytes: &[u8], aim: Aim, sink: &mut K) -> Report
     requires { length bytes.now ≤ 1048576 }
-    ensures outcome { (left : Option (List ℕ)) → IsAtEnd left → IsOutcome bytes.now left result.status result.history.items (K.held sink.old) (K.held sink.new) }
+    ensures outcome { (left : Option (List ℕ)) → IsAtEnd left → IsOutcome (told_by aim) bytes.now left result.status result.history.items (K.held sink.old) (K.held sink.new) }
     ensures read { result.status ≡ 3 → ⊥ }
     ensures fault { result.status ≡ 4 → HasRisen (K.faults sink.old) (K.faults sink.new) }
     ensures refusal { result.status ≡ 2 → (left : Option (List ℕ)) → IsAtEnd left
         → TellsRefusal bytes.now left (HasRisen (K.faults sink.old) (K.faults sink.new)) (K.held sink.old) (K.held sink.new) }
 {
     match Script::read(alloc, bytes) {
-        Ok(script) => run_script(alloc, &script, sink),
+        Ok(script) => tell(alloc, &script, aim, sink),
         Err(ScriptFault::Memory) => without_run(5, alloc),
         Err(ScriptFault::BadLine(line, cause)) => refuse(alloc, line, cause, sink),
     }
 }
 
-/// Runs the job that the words name: reads a script from the source, runs it on this thread, and writes its
-/// transcript to the sink.
+/// Reads the source to its end, and makes of the script what the job aims at.
+fn tell_source<S: Source, K: Sink>(alloc: Global, aim: Aim, source: &mut S, sink: &mut K) -> Report
+    ensures named { result.status ≡ 1 → ⊥ }
+    ensures refusal { result.status ≡ 2 → (bytes : List ℕ) × Consumes (S.left source.old) (S.left source.new) bytes
+        × TellsRefusal bytes (S.left source.new) (HasRisen (K.faults sink.old) (K.faults sink.new)) (K.held sink.old) (K.held sink.new) }
+    ensures source_fault { result.status ≡ 3 → HasRisen (S.faults source.old) (S.faults source.new) }
+    ensures sink_fault { result.status ≡ 4 → HasRisen (K.faults sink.old) (K.faults sink.new) }
+    ensures outcome { (bytes : List ℕ) × Consumes (S.left source.old) (S.left source.new) bytes
+        × IsOutcome (told_by aim) bytes (S.left source.new) result.status result.history.items (K.held sink.old) (K.held sink.new) }
+{
+    match read_script(alloc, source) {
+        Ok(bytes) => tell_bytes(alloc, bytes.as_slice(), aim, sink),
+        Err(ReadFault::ReadFault) => without_run(3, alloc),
+        Err(ReadFault::TooLong) => {
+            let _ = write_whole(sink, b"LINE 0 TOO LONG\n");
+            without_run(2, alloc)
+        }
+        Err(ReadFault::Memory) => without_run(5, alloc),
+    }
+}
+
+/// Writes the script that a seed makes.
+fn make<K: Sink>(alloc: Global, seed: u64, count: u32, sink: &mut K) -> Report
+    ensures said { IsSaid (generated seed count) result.status result.history.items (K.held sink.old) (K.held sink.new) }
+    ensures fault { result.status ≡ 4 → HasRisen (K.faults sink.old) (K.faults sink.new) }
+    ensures read { (result.status ≡ 3 → ⊥) × (result.status ≡ 2 → ⊥) × (result.status ≡ 1 → ⊥) }
+{
+    match generate(alloc, seed, count) {
+        Ok(text) => say(alloc, text.as_slice(), sink),
+        Err(_) => without_run(5, alloc),
+    }
+}
+
+/// Runs the script that a seed makes, and writes the summary of the run. No such script is refused or too long; where one were,
+/// the answer would be that of want of memory.
+fn mix<K: Sink>(alloc: Global, seed: u64, count: u32, sink: &mut K) -> Report
+    ensures mixed { IsMixed seed count result.status result.history.items (K.held sink.old) (K.held sink.new) }
+    ensures fault { result.status ≡ 4 → HasRisen (K.faults sink.old) (K.faults sink.new) }
+    ensures read { (result.status ≡ 3 → ⊥) × (result.status ≡ 2 → ⊥) × (result.status ≡ 1 → ⊥) }
+{
+    let text = match generate(alloc, seed, count) {
+        Ok(text) => text,
+        Err(_) => return without_run(5, alloc),
+    };
+    if text.len() > 1_048_576 {
+        return without_run(5, alloc);
+    }
+    match Script::read(alloc, text.as_slice()) {
+        Ok(script) => run_script(alloc, &script, Output::Summary, sink),
+        Err(_) => without_run(5, alloc),
+    }
+}
+
+/// What the job `serial` writes.
+fn output_of(trace: bool) -> Output
+    ensures { result ≡ output_of trace }
+{
+    if trace {
+        Output::Traced
+    } else {
+        Output::Transcript
+    }
+}
+
+/// Runs the job that the words name: `serial [--trace]` reads a script from the source, runs it on this thread, and writes its
+/// transcript to the sink, with its trace behind it; `check` reads a script and writes how many lines it has; `generate --seed N
+/// --count M` writes the script that a seed makes; `mix --seed N --count M` runs that script and writes the summary of the run.
 ///
-/// Status 1: the words are not the one word `serial`. 3: the source failed. 2: the script is refused, at its first
-/// bad line or for its length. 4: the sink failed. 5: memory was wanting: before the run or for its transcript, and then
+/// Status 1: the words name no job. 3: the source failed. 2: the script is refused, at its first
+/// bad line or for its length. 4: the sink failed. 5: memory was wanting: before the run or for its text, and then
 /// nothing is written, or somebody stopped for it in the run. 6: somebody stopped at the limit of the history or of a
 /// table. 0: every line is answered. Where several hold, the first of these is answered. It takes one pass over the bytes,
-/// time for each entry of the history, and two passes over the history; `rt` and the gate are for jobs on threads.
+/// time for each entry of the history, and two or three passes over the history; `rt` and the gate are for jobs on threads.
 pub fn db2iso<R: Threads + Wait + Sync, S: Source, K: Sink, G: Gate + Sync>(
     rt: &R,
     alloc: Global,
@@ -183,32 +291,37 @@ pub fn db2iso<R: Threads + Wait + Sync, S: Source, K: Sink, G: Gate + Sync>(
     sink: &mut K,
     gate: &G,
 ) -> Report
-    ensures usage { (result.status ≡ 1) ↔ ¬ IsRow (texts words.now) }
+    ensures usage { (result.status ≡ 1) ↔ (job_of (texts words.now) ≡ None) }
     ensures usage_text { result.status ≡ 1 → (result.history.items ≡ []) × AppendsPart (K.held sink.old) (K.held sink.new) usage }
     ensures usage_whole { result.status ≡ 1 → IsWritten (HasRisen (K.faults sink.old) (K.faults sink.new)) (K.held sink.old) (K.held sink.new) usage }
     ensures refusal { result.status ≡ 2 → (bytes : List ℕ) × Consumes (S.left source.old) (S.left source.new) bytes
         × TellsRefusal bytes (S.left source.new) (HasRisen (K.faults sink.old) (K.faults sink.new)) (K.held sink.old) (K.held sink.new) }
     ensures source_fault { result.status ≡ 3 → HasRisen (S.faults source.old) (S.faults source.new) }
     ensures sink_fault { result.status ≡ 4 → HasRisen (K.faults sink.old) (K.faults sink.new) }
-    ensures outcome { IsRow (texts words.now) → (bytes : List ℕ) × Consumes (S.left source.old) (S.left source.new) bytes
-        × IsOutcome bytes (S.left source.new) result.status result.history.items (K.held sink.old) (K.held sink.new) }
-    ensures answered { IsRow (texts words.now) → (all : List ℕ) → S.left source.old ≡ Some all
-        → IsAnswered all (S.left source.new) result.status result.history.items (K.held sink.old) (K.held sink.new) }
-    ensures complete { IsRow (texts words.now) → (bytes : List ℕ) → S.left source.old ≡ Some bytes → (script : Program) → IsScript bytes script
+    ensures outcome { (aim : Aim) → aim_of (job_of (texts words.now)) ≡ Some aim → (bytes : List ℕ) × Consumes (S.left source.old) (S.left source.new) bytes
+        × IsOutcome (told_by aim) bytes (S.left source.new) result.status result.history.items (K.held sink.old) (K.held sink.new) }
+    ensures answered { (output : Output) → aim_of (job_of (texts words.now)) ≡ Some (Run output) → (all : List ℕ) → S.left source.old ≡ Some all
+        → IsAnswered output all (S.left source.new) result.status result.history.items (K.held sink.old) (K.held sink.new) }
+    ensures complete { (output : Output) → aim_of (job_of (texts words.now)) ≡ Some (Run output) → (bytes : List ℕ) → S.left source.old ≡ Some bytes
+        → (script : Program) → IsScript bytes script
         → ¬ HasRisen (S.faults source.old) (S.faults source.new) → ¬ HasRisen (K.faults sink.old) (K.faults sink.new)
-        → IsComplete script result.status result.history.items (S.left source.new) (K.held sink.old) (K.held sink.new) ⊎ (result.status ≡ 5) }
+        → IsComplete output script result.status result.history.items (S.left source.new) (K.held sink.old) (K.held sink.new) ⊎ (result.status ≡ 5) }
+    ensures generated { (seed count : ℕ) → job_of (texts words.now) ≡ Some (Generate seed count)
+        → IsSaid (generated seed count) result.status result.history.items (K.held sink.old) (K.held sink.new) }
+    ensures mixed { (seed count : ℕ) → job_of (texts words.now) ≡ Some (Mix seed count)
+        → IsMixed seed count result.status result.history.items (K.held sink.old) (K.held sink.new) }
+    ensures unread { aim_of (job_of (texts words.now)) ≡ None → (S.left source.new ≡ S.left source.old) × (S.faults source.new ≡ S.faults source.old) }
 {
-    if !is_row(words) {
-        let _ = write_whole(sink, b"USAGE\n");
-        return without_run(1, alloc);
-    }
-    match read_script(alloc, source) {
-        Ok(bytes) => run_bytes(alloc, bytes.as_slice(), sink),
-        Err(ReadFault::ReadFault) => without_run(3, alloc),
-        Err(ReadFault::TooLong) => {
-            let _ = write_whole(sink, b"LINE 0 TOO LONG\n");
-            without_run(2, alloc)
+    match read_words(words) {
+        None => {
+            let _ = write_whole(sink, b"USAGE\n");
+            without_run(1, alloc)
         }
-        Err(ReadFault::Memory) => without_run(5, alloc),
+        Some(Job::Serial { trace }) => {
+            tell_source(alloc, Aim::Run(output_of(trace)), source, sink)
+        }
+        Some(Job::Check) => tell_source(alloc, Aim::Count, source, sink),
+        Some(Job::Generate { seed, count }) => make(alloc, seed, count, sink),
+        Some(Job::Mix { seed, count }) => mix(alloc, seed, count, sink),
     }
 }

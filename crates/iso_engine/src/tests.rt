@@ -332,6 +332,52 @@ fn source_fails<R: Threads + Wait + Sync + AllocGlobal>(
     Ok(told.0 == 3 && told.1 == 0 && to.held().is_empty())
 }
 
+// A script of one line, and what is told of it with its trace.
+const ONE: &[u8] =
+    b"DB2ISO 1\nTABLE T (N INTEGER)\nCONNECT A\nBEGIN\nA: INSERT INTO T VALUES (7)\nEND\n";
+
+const TRACED: &[u8] =
+    b"5 A SQLCODE 0 ROWS 1\nEND\nTRACE 8\n0 - DISPATCH 5 A\n1 A LOCK TABLE T IX KEPT ASKED GRANTED\n2 A INSERT T 0 (7)\n3 A REPLY 0 1\n4 - CLOSE A\n5 A UNDO 0\n6 A ENDED\n7 - FINISH\n";
+
+// The script of seed 7 with two lines, made by another program.
+const MADE: &[u8] =
+    b"DB2ISO 1\nTABLE ACCT (ID INTEGER NOT NULL, BAL BIGINT NOT NULL, TAG VARCHAR(8))\nUNIQUE INDEX PK ON ACCT (ID)\nROW ACCT (10, 1000, 'a')\nROW ACCT (20, 1000, 'a')\nROW ACCT (30, 1000, 'a')\nROW ACCT (40, 1000, 'a')\nROW ACCT (50, 1000, 'a')\nROW ACCT (60, 1000, 'a')\nROW ACCT (70, 1000, 'a')\nROW ACCT (80, 1000, 'a')\nROW ACCT (90, 1000, 'a')\nROW ACCT (100, 1000, 'a')\nROW ACCT (110, 1000, 'a')\nROW ACCT (120, 1000, 'a')\nROW ACCT (130, 1000, 'a')\nROW ACCT (140, 1000, 'a')\nROW ACCT (150, 1000, 'a')\nROW ACCT (160, 1000, 'a')\nROW ACCT (170, 1000, 'a')\nROW ACCT (180, 1000, 'a')\nROW ACCT (190, 1000, 'a')\nROW ACCT (200, 1000, 'a')\nCONNECT A CS\nCONNECT B CS\nCONNECT C RS\nCONNECT D RR\nBEGIN\nB: SELECT BAL FROM ACCT WHERE ID = 50\nA: DELETE FROM ACCT WHERE ID = 269\nEND\n";
+
+// The other jobs, and words that name none.
+const JOBS: [(&[&str], &[u8], &[u8], u8); 10] = [
+    (&["serial", "--trace"], ONE, TRACED, 0),
+    (
+        &["--trace", "serial"],
+        b"DB2ISO 1\nBEGIN\nEND\n",
+        b"END\nTRACE 1\n0 - FINISH\n",
+        0,
+    ),
+    (&["check"], FIRST, b"SCRIPT OK 3\n", 0),
+    (&["check"], b"DB2ISO 1\nBEGIN", b"LINE 3 SYNTAX AT 1\n", 2),
+    (&["generate", "--seed", "7", "--count=2"], b"", MADE, 0),
+    (&["serial", "--seed"], FIRST, b"USAGE\n", 1),
+    (&["run", "--seed", "1"], FIRST, b"USAGE\n", 1),
+    (&["check", "--trace"], FIRST, b"USAGE\n", 1),
+    (&["mix", "--seed", "7"], FIRST, b"USAGE\n", 1),
+    (
+        &["mix", "--seed", "7", "--count", "0"],
+        FIRST,
+        b"USAGE\n",
+        1,
+    ),
+];
+
+#[test]
+fn jobs_give_their_output(rt: HostRuntime) -> Result<(), Fail> {
+    for (words, script, output, status) in JOBS {
+        assert!(rt;
+            gives(&rt, words, script, output, status, 4096)?,
+            "{words:?}"
+        );
+    }
+    Ok(())
+}
+
 #[test]
 fn scripts_give_their_output(rt: HostRuntime) -> Result<(), Fail> {
     for (words, script, output, status) in CASES {

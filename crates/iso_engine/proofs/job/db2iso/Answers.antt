@@ -1,14 +1,27 @@
-use Rattle.std.proofs.Common.{◌∙◌}
-use Rattle.iso_engine.proofs.Complete.{answered, complete, moved}
+use Rattle.std.proofs.Common.{◌≡◌, Some}
+use Rattle.iso_engine.proofs.Aims.{came-answered, came-complete, serial-outcome}
+use Rattle.iso_engine.specs.declared.job.Aim.TheVariants.{Run}
+use Rattle.iso_words.specs.Table.{job_of, texts}
+use Rattle.iso_words.specs.declared.parts.Job.TheVariants.{Serial}
 use Rattle.iso_engine.proofs.job.db2iso.Goals as goal
 
-pub returns-in-Ok-clause-answered : goal.returns-in-Ok-clause-answered
-returns-in-Ok-clause-answered g c = λ row all told.
-    answered _ _ _ _ all _ _ _ c.in-Ok.ensures.bytes.1 told
-    (moved _ _ _ _ _ _ _ (c.as_slice.ensures ∙ c.in-Ok.ensures.bytes.2.0) (c.run_bytes.ensures.outcome _ c.in-Ok.ensures.end))
+pub returns-in-Some-Serial-clause-answered : goal.returns-in-Some-Serial-clause-answered
+returns-in-Some-Serial-clause-answered g c = λ output e all told.
+    let a = c.read_words.ensures in
+    let b = c.in-Some-Serial.is in
+    let d = c.in-Some-Serial.field-0-is in
+    let j : job_of (texts c.args.words.now) ≡ Some (Serial c.in-Some-Serial.trace) = cc in
+    came-answered _ _ _ _ _ _ output all told
+    (serial-outcome _ _ _ _ _ _ (job_of (texts c.args.words.now)) c.in-Some-Serial.trace c.output_of.result (Run output) j c.output_of.ensures
+    c.tell_source.ensures.outcome e)
 
-pub returns-in-Ok-clause-complete : goal.returns-in-Ok-clause-complete
-returns-in-Ok-clause-complete g c = λ row all told script is source sink.
-    complete _ _ _ _ all _ _ _ c.in-Ok.ensures.bytes.1 told
-    (moved _ _ _ _ _ _ _ (c.as_slice.ensures ∙ c.in-Ok.ensures.bytes.2.0) (c.run_bytes.ensures.outcome _ c.in-Ok.ensures.end))
-    script is c.run_bytes.ensures.read (λ f. sink (c.run_bytes.ensures.fault f))
+pub returns-in-Some-Serial-clause-complete : goal.returns-in-Some-Serial-clause-complete
+returns-in-Some-Serial-clause-complete g c = λ output e all told script is source sink.
+    let a = c.read_words.ensures in
+    let b = c.in-Some-Serial.is in
+    let d = c.in-Some-Serial.field-0-is in
+    let j : job_of (texts c.args.words.now) ≡ Some (Serial c.in-Some-Serial.trace) = cc in
+    came-complete _ _ _ _ _ _ output all told
+    (serial-outcome _ _ _ _ _ _ (job_of (texts c.args.words.now)) c.in-Some-Serial.trace c.output_of.result (Run output) j c.output_of.ensures
+    c.tell_source.ensures.outcome e)
+    script is (λ f. source (c.tell_source.ensures.source_fault f)) (λ f. sink (c.tell_source.ensures.sink_fault f))

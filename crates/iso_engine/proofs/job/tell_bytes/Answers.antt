@@ -1,6 +1,6 @@
 use Rattle.std.proofs.Common.{inr}
 use Rattle.iso_engine.proofs.Outcomes.{refusal-outcome, refusal-text}
-use Rattle.iso_engine.proofs.job.run_bytes.Goals as goal
+use Rattle.iso_engine.proofs.job.tell_bytes.Goals as goal
 
 pub returns-in-Ok-clause-outcome : goal.returns-in-Ok-clause-outcome
-returns-in-Ok-clause-outcome g c = λ left end. inr (inr (end, c.requires, c.in-Ok.script, c.in-Ok.ensures.read, c.run_script.ensures.told))
+returns-in-Ok-clause-outcome g c = λ left end. inr (inr (end, c.requires, c.in-Ok.script, c.in-Ok.ensures.read, c.tell.ensures.told))
