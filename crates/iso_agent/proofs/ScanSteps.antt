@@ -1,31 +1,20 @@
 -- What each answer makes of the scan of an open statement.
-use Rattle.std.proofs.Common.{◌≡◌, ◌≤◌, ◌<◌, ◌+◌, ℕ, Bool, true, false, ◌&&◌, List, [], ◌∷◌, ◌++◌, refl, subst, Option, Some, None, arith, length, length-append, if◌then◌else◌}
-use Rattle.std.proofs.lemmas.Bool.{le-leb, leb-true, lt-ltb, ltb-true}
+use Rattle.std.proofs.Common.{◌≡◌, ◌<◌, ℕ, Bool, true, false, ◌&&◌, List, [], ◌∷◌, ◌++◌, refl, Option, Some, None}
+use Rattle.std.proofs.lemmas.Bool.{lt-ltb}
 use Rattle.std.specs.List.{list_all}
-use Rattle.std.specs.Option.{option_map_or}
-use Rattle.std.specs.Prelude.{Ok, Err, Result, nat_le, nat_lt}
-use Rattle.iso_agent.specs.Scans.{IsSoundPoint, is_scanned, is_walk, is_within}
-use Rattle.iso_conduct.specs.Courses.{haul_size, keyed_within, scan_slot}
-use Rattle.iso_conduct.specs.Parts.{Part, Walk}
-use Rattle.iso_conduct.specs.Parts.Part.{Asks, Changes, EntryLook, Frees, IndexScan, Leaves, Refuses, Replies, RowUpdate, TableScan}
-use Rattle.iso_conduct.specs.Points.{Haul, Point, backed_up, behind, change_part, change_parts, due_by, ending, fault_code, found_rows, freeing, frees, hauled, is_kept, kept_with, look_rid, looked, looked_by, opened_out, past_look, projected_by, queued_up, standing_at, told_point}
-use Rattle.iso_conduct.specs.Points.Haul.{Found, Given, Number}
-use Rattle.iso_conduct.specs.declared.moves.Move.{Move}
+use Rattle.std.specs.Prelude.{Ok, Err, Result, nat_lt}
+use Rattle.iso_agent.specs.Scans.{IsSoundPoint, is_walk, is_within}
+use Rattle.iso_conduct.specs.Parts.{Part}
+use Rattle.iso_conduct.specs.Parts.Part.{Asks, Changes, IndexScan, Leaves, Refuses, Replies, RowUpdate}
+use Rattle.iso_conduct.specs.Points.{Point, backed_up, behind, change_part, change_parts, ending, fault_code, found_rows, opened_out, queued_up, standing_at, told_point}
 use Rattle.iso_conduct.specs.declared.moves.Told.{Told}
-use Rattle.iso_history.proofs.phantoms.KeysAfter.{table-of-test}
 use Rattle.iso_history.specs.Versions.{slots}
 use Rattle.iso_history.specs.World.{World}
-use Rattle.iso_history.specs.declared.entry.Want.{Want}
 use Rattle.iso_predicate.specs.Assigned.{Fault, assigned}
-use Rattle.iso_sql.specs.Sound.{columns_of}
 use Rattle.iso_sql.specs.declared.statement.Statement.{Statement}
 use Rattle.iso_sql.specs.declared.statement.Statement.TheVariants as st
-use Rattle.iso_types.specs.Head.{table_of_index}
-use Rattle.iso_types.specs.Ids.{table_eq}
 use Rattle.iso_types.specs.declared.head.Column.{Column}
 use Rattle.iso_types.specs.declared.head.Head.{Head}
-use Rattle.iso_types.specs.declared.head.Range.{Range}
-use Rattle.iso_types.specs.declared.value.IndexId.{IndexId}
 use Rattle.iso_types.specs.declared.value.Rid.{Rid}
 use Rattle.iso_types.specs.declared.value.TableId.{TableId}
 use Rattle.iso_types.specs.declared.value.Value.{Value}
