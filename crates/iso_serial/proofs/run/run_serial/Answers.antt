@@ -5,7 +5,7 @@ use Rattle.iso_serial.proofs.Rests.{new-rested}
 use Rattle.iso_serial.proofs.run.run_serial.Goals as goal
 
 pub new-requires : goal.new-requires
-new-requires c = head-fits c.args.script.now.head c.requires.head
+new-requires c = record { fits = head-fits c.args.script.now.head c.requires.sound.head }
 
 pub run_turns-requires-clause-rested : goal.run_turns-requires-clause-rested
 run_turns-requires-clause-rested c =
