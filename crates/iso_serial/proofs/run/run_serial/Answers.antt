@@ -4,8 +4,8 @@ use Rattle.iso_serial.proofs.Heads.{head-fits}
 use Rattle.iso_serial.proofs.Rests.{new-rested}
 use Rattle.iso_serial.proofs.run.run_serial.Goals as goal
 
-pub new-requires-clause-fits : goal.new-requires-clause-fits
-new-requires-clause-fits c = head-fits c.args.script.now.head c.requires.sound.head
+pub new-requires : goal.new-requires
+new-requires c = record { fits = head-fits c.args.script.now.head c.requires.sound.head }
 
 pub run_turns-requires-clause-rested : goal.run_turns-requires-clause-rested
 run_turns-requires-clause-rested c =
