@@ -16,7 +16,6 @@ impl Agent {
     /// Makes the next entry of the connection on the state, where it is able, as `make` does; it costs what that does. What its
     /// entry leaves to be told is kept for `settle`: the task of a look is as it was before. (This project's own.)
     pub fn step(&mut self, alloc: Global, script: &Script, state: State) -> (State, Turned)
-        requires plain { length script.now.head.indexes ≡ 0 } // keys come next
         requires head { state.head ≡ script.now.head }
         requires sound { IsSound script.now }
         requires conn { self.old.conn.0 < length script.now.head.conns }

@@ -63,7 +63,6 @@ impl Agent {
         script: &Script,
         gate: &G,
     ) -> (Pass<State>, Turned)
-        requires plain { length script.now.head.indexes ≡ 0 } // keys come next
         requires sound { IsSound script.now }
         requires within { self.old.conn.0 < length script.now.head.conns }
         requires pass { IsPassOf latch.now.table.shared.table_id script.now self.old.conn pass }
@@ -98,7 +97,6 @@ impl Agent {
         gate: &G,
         bells: &Bells,
     ) -> Pass<State>
-        requires plain { length script.now.head.indexes ≡ 0 } // keys come next
         requires sound { IsSound script.now }
         requires within { self.conn.0 < length script.now.head.conns }
         requires pass { IsPassOf latch.now.table.shared.table_id script.now self.conn pass }

@@ -1,8 +1,8 @@
 mod Alone
-mod Begins
+pub mod Begins
 mod Circle
-mod Ends
-mod Heads
+pub mod Ends
+pub mod Heads
 mod Lines
 mod Rests
 mod Scheduled

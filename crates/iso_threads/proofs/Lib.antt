@@ -1,0 +1,6 @@
+pub mod Others
+pub mod Leading
+pub mod Firsts
+pub mod Ends
+pub mod Returned
+pub mod Started
