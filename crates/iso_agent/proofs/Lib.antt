@@ -21,3 +21,4 @@ pub mod Making
 pub mod Dues
 pub mod NextStepping
 pub mod Entering
+pub mod Rising

@@ -5,3 +5,4 @@ pub mod Quiet
 pub mod Scans
 pub mod Ways
 pub mod Passes
+pub mod Rising

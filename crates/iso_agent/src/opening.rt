@@ -11,6 +11,7 @@ ghost use Rattle.iso_conduct.specs.Starts.{setting_of};
 ghost use Rattle.std.specs.Option.{option_copied, option_map};
 ghost use Rattle.std.specs.List.{list_all};
 ghost use Rattle.iso_script.specs.Sound.{is_sound_line};
+ghost use Rattle.iso_agent.specs.Rising.{rises};
 
 use crate::quiet::quieten;
 use iso_conduct::Task;
@@ -41,11 +42,30 @@ fn begin(alloc: Global, line: &Line, head: &Head, conn: Conn, desk: &Desk) -> Re
     }
 }
 
-/// The line with this number. It looks at each line before it.
+/// The line with this number, among lines whose numbers rise; each look halves them.
 fn line_at(lines: &[Line], number: u32) -> Option<&Line>
+    requires rises { rises lines.now ≡ true }
     ensures { option_copied result ≡ find (λ l. l.number == number) lines.now }
 {
-    lines.iter().find(|line| line.number == number)
+    let mut rest = lines;
+    while rest.len() > 1 {
+        let (front, back) = rest.split_at(rest.len() / 2);
+        rest = if back[0].number <= number {
+            back
+        } else {
+            front
+        };
+    }
+    match rest.first() {
+        Some(line) => {
+            if line.number == number {
+                Some(line)
+            } else {
+                None
+            }
+        }
+        None => None,
+    }
 }
 
 /// The task of the statement on the line with the desk's number, where it is the connection's; else as for want of memory.
@@ -58,6 +78,7 @@ fn begin_at(
 ) -> Result<Task, Memory>
     requires indexes { length head.now.indexes ≤ 256 }
     requires sound { list_all (is_sound_line head.now) lines.now ≡ true }
+    requires rises { rises lines.now ≡ true }
     ensures { IfOk result (λ t. option_map (start_point head.now conn (setting_of desk.now) desk.now.start) (statement_on conn (find (λ l. l.number == desk.now.line) lines.now)) ≡ Some t) }
 {
     match line_at(lines, desk.line) {
@@ -67,7 +88,7 @@ fn begin_at(
 }
 
 /// The task of the statement that a running connection begins. `Memory`: there was none for a copy of the statement, or the
-/// line of its Dispatch has no statement of this connection. It looks at the script's lines up to that one.
+/// line of its Dispatch has no statement of this connection. It finds the line by halving the script's.
 pub fn open(alloc: Global, script: &Script, parts: &Parts, conn: Conn) -> Result<Task, Memory>
     requires stands { StandsFor parts.now }
     requires head { parts.now.head ≡ script.now.head }
