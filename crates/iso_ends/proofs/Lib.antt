@@ -10,3 +10,4 @@ pub mod PurgeWalks
 pub mod PurgeSteps
 pub mod StaleAfter
 pub mod StaleWalks
+pub mod PageWalks

@@ -85,7 +85,7 @@ fn is_purgeable(parts: &Parts, index: IndexId, def: &IndexDef, pair: &(Value, Ri
 }
 
 /// The least purgeable pair of an index. It looks at its pairs up to that one, each found by halving, and at their slots.
-fn first_purgeable(
+fn walk_purgeable(
     parts: &Parts,
     index: IndexId,
     def: &IndexDef,
@@ -102,6 +102,50 @@ fn first_purgeable(
             return Some(pair);
         }
         next = keys.next_after(pair);
+    }
+    None
+}
+
+/// The first purgeable pair of a page.
+fn first_in(
+    parts: &Parts,
+    index: IndexId,
+    def: &IndexDef,
+    page: &[(Value, Rid)],
+) -> Option<(Value, Rid)>
+    requires stands { StandsFor parts.now }
+    requires def { slice_get parts.now.head.indexes index.0 ≡ Some def.now }
+    ensures { result ≡ find (may_go parts.now.head (world_of parts.now) index) page.now }
+{
+    for pair in page {
+        if is_purgeable(parts, index, def, pair) {
+            return Some(*pair);
+        }
+    }
+    None
+}
+
+/// The least purgeable pair of an index. It looks at its pairs up to that one, page by page, and at their slots.
+fn first_purgeable(
+    parts: &Parts,
+    index: IndexId,
+    def: &IndexDef,
+    keys: &KeyIndex,
+) -> Option<(Value, Rid)>
+    requires stands { StandsFor parts.now }
+    requires def { slice_get parts.now.head.indexes index.0 ≡ Some def.now }
+    requires keys { entries keys.now ≡ entries_of (world_of parts.now) index }
+    ensures { result ≡ find (may_go parts.now.head (world_of parts.now) index) (entries_of (world_of parts.now) index) }
+{
+    let mut at: usize = 0;
+    while let Some(page) = keys.page(at) {
+        if let Some(pair) = first_in(parts, index, def, page) {
+            return Some(pair);
+        }
+        match at.checked_add(1) {
+            Some(next) => at = next,
+            None => return walk_purgeable(parts, index, def, keys),
+        }
     }
     None
 }

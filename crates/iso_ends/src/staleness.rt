@@ -37,7 +37,7 @@ fn is_stale_pair(parts: &Parts, index: IndexId, def: &IndexDef, pair: &(Value, R
 }
 
 /// Whether a pair of the index is stale. It looks at its pairs up to that one, each found by halving, and at their slots.
-fn has_stale_pair(parts: &Parts, index: IndexId, def: &IndexDef, keys: &KeyIndex) -> bool
+fn walk_stale(parts: &Parts, index: IndexId, def: &IndexDef, keys: &KeyIndex) -> bool
     requires stands { StandsFor parts.now }
     requires def { slice_get parts.now.head.indexes index.0 ≡ Some def.now }
     requires keys { entries keys.now ≡ entries_of (world_of parts.now) index }
@@ -49,6 +49,40 @@ fn has_stale_pair(parts: &Parts, index: IndexId, def: &IndexDef, keys: &KeyIndex
             return true;
         }
         next = keys.next_after(pair);
+    }
+    false
+}
+
+/// Whether a pair of the page is stale.
+fn has_stale_page(parts: &Parts, index: IndexId, def: &IndexDef, page: &[(Value, Rid)]) -> bool
+    requires stands { StandsFor parts.now }
+    requires def { slice_get parts.now.head.indexes index.0 ≡ Some def.now }
+    ensures { result ≡ is_some (find (stale_at parts.now.head (world_of parts.now) index) page.now) }
+{
+    for pair in page {
+        if is_stale_pair(parts, index, def, pair) {
+            return true;
+        }
+    }
+    false
+}
+
+/// Whether a pair of the index is stale. It looks at its pairs up to that one, page by page, and at their slots.
+fn has_stale_pair(parts: &Parts, index: IndexId, def: &IndexDef, keys: &KeyIndex) -> bool
+    requires stands { StandsFor parts.now }
+    requires def { slice_get parts.now.head.indexes index.0 ≡ Some def.now }
+    requires keys { entries keys.now ≡ entries_of (world_of parts.now) index }
+    ensures { result ≡ is_some (find (stale_at parts.now.head (world_of parts.now) index) (entries_of (world_of parts.now) index)) }
+{
+    let mut at: usize = 0;
+    while let Some(page) = keys.page(at) {
+        if has_stale_page(parts, index, def, page) {
+            return true;
+        }
+        match at.checked_add(1) {
+            Some(next) => at = next,
+            None => return walk_stale(parts, index, def, keys),
+        }
     }
     false
 }

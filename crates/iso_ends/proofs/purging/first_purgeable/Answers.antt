@@ -1,31 +1,19 @@
-use Rattle.std.proofs.Common.{◌∙◌, sym, subst}
+use Rattle.std.proofs.Common.{◌∙◌, ap, find, sym}
 use Rattle.iso_history.specs.Entries.{is_purgeable}
-use Rattle.iso_key.specs.Pages.{entries}
-use Rattle.iso_state.specs.Stands.{content_of, world_of}
-use Rattle.iso_ends.proofs.PurgeWalks.{IsWalk, pairs-ordered, walk-begins, walk-less, walk-next}
+use Rattle.iso_state.specs.Stands.{world_of}
+use Rattle.iso_ends.proofs.PageWalks.{page-found, page-passed}
 use Rattle.iso_ends.proofs.purging.first_purgeable.Goals as goal
 
-pub loop-next-init : goal.loop-next-init
-loop-next-init c =
+pub returns-in-Some-first_in : goal.returns-in-Some-first_in
+returns-in-Some-first_in c =
     let p = c.args.parts.now in
-    let ps = entries c.args.keys.now in
     let t = is_purgeable p.head (world_of p) c.args.index in
-    subst (IsWalk t ps) (sym c.first_from-next.ensures)
-    (walk-begins t ps (pairs-ordered (content_of p) c.requires.stands.stands c.args.index ps c.requires.keys))
+    sym (page-found t c.args.keys.now c.loop-page.at c.in-Some.page.now c.in-Some-first_in.pair (sym c.in-Some.ensures.some) c.loop-page.invariant
+    (sym c.first_in.ensures ∙ c.in-Some-first_in.is)) ∙ ap (find t) c.requires.keys
 
-pub loop-next-smaller : goal.loop-next-smaller
-loop-next-smaller c =
+pub loop-page-preserved : goal.loop-page-preserved
+loop-page-preserved c =
     let p = c.args.parts.now in
-    let ps = entries c.args.keys.now in
     let t = is_purgeable p.head (world_of p) c.args.index in
-    walk-less t ps (pairs-ordered (content_of p) c.requires.stands.stands c.args.index ps c.requires.keys) c.in-Some.pair c.loop-next.next c.next_after-next.result
-    c.in-Some.is c.next_after-next.ensures
-
-pub loop-next-preserved : goal.loop-next-preserved
-loop-next-preserved c =
-    let p = c.args.parts.now in
-    let ps = entries c.args.keys.now in
-    let t = is_purgeable p.head (world_of p) c.args.index in
-    subst (IsWalk t ps) (sym c.next_after-next.ensures)
-    (walk-next t ps (pairs-ordered (content_of p) c.requires.stands.stands c.args.index ps c.requires.keys) c.in-Some.pair
-    (sym c.is_purgeable.ensures ∙ c.if-is_purgeable.false) (subst (IsWalk t ps) c.in-Some.is c.loop-next.invariant))
+    page-passed t c.args.keys.now c.loop-page.at c.in-Some-checked_add.next c.in-Some.page.now (sym c.in-Some.ensures.some)
+    c.in-Some-checked_add.ensures.1 c.loop-page.invariant (sym c.first_in.ensures ∙ c.in_default-first_in.is)

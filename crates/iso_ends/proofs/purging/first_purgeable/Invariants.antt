@@ -1,12 +1,12 @@
-use Rattle.std.proofs.Common.{length}
+use Rattle.std.proofs.Common.{◌≡◌, ◌-◌, None, length}
+use Rattle.std.specs.Prelude.{find, take}
 use Rattle.iso_history.specs.Entries.{is_purgeable}
 use Rattle.iso_key.specs.Pages.{entries}
 use Rattle.iso_state.specs.Stands.{world_of}
-use Rattle.iso_ends.proofs.PurgeWalks.{IsWalk, behind}
 use Rattle.iso_ends.proofs.purging.first_purgeable.Given as goal
 
-abbrev pub invariant-loop-next : goal.invariant-loop-next
-invariant-loop-next l = IsWalk (is_purgeable l.parts.head (world_of l.parts) l.index) (entries l.keys) l.next
+abbrev pub invariant-loop-page : goal.invariant-loop-page
+invariant-loop-page l = find (is_purgeable l.parts.head (world_of l.parts) l.index) (entries (take l.at l.keys)) ≡ None
 
-abbrev pub decreases-loop-next : goal.decreases-loop-next
-decreases-loop-next l = length (behind l.next (entries l.keys))
+abbrev pub decreases-loop-page : goal.decreases-loop-page
+decreases-loop-page l = length l.keys - l.at

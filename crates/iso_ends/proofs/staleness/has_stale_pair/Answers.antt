@@ -1,31 +1,21 @@
-use Rattle.std.proofs.Common.{◌∙◌, sym, subst}
+use Rattle.std.proofs.Common.{◌∙◌, List, ap, find, is_some, sym}
 use Rattle.iso_ends.specs.Purges.{is_stale_at}
-use Rattle.iso_key.specs.Pages.{entries}
-use Rattle.iso_state.specs.Stands.{content_of, world_of}
-use Rattle.iso_ends.proofs.PurgeWalks.{IsWalk, pairs-ordered, walk-begins, walk-less, walk-next}
+use Rattle.iso_state.specs.Stands.{world_of}
+use Rattle.iso_types.specs.declared.value.Rid.{Rid}
+use Rattle.iso_types.specs.declared.value.Value.{Value}
+use Rattle.iso_ends.proofs.PageWalks.{page-some, page-unfound}
 use Rattle.iso_ends.proofs.staleness.has_stale_pair.Goals as goal
 
-pub loop-next-init : goal.loop-next-init
-loop-next-init c =
+pub returns-then-has_stale_page : goal.returns-then-has_stale_page
+returns-then-has_stale_page c =
     let p = c.args.parts.now in
-    let ps = entries c.args.keys.now in
     let t = is_stale_at p.head (world_of p) c.args.index in
-    subst (IsWalk t ps) (sym c.first_from-next.ensures)
-    (walk-begins t ps (pairs-ordered (content_of p) c.requires.stands.stands c.args.index ps c.requires.keys))
+    sym (page-some t c.args.keys.now c.loop-page.at c.in-Some.page.now (sym c.in-Some.ensures.some) c.loop-page.invariant
+    (sym c.has_stale_page.ensures ∙ c.if-has_stale_page.true)) ∙ ap (λ (ps : List (Value × Rid)). is_some (find t ps)) c.requires.keys
 
-pub loop-next-smaller : goal.loop-next-smaller
-loop-next-smaller c =
+pub loop-page-preserved : goal.loop-page-preserved
+loop-page-preserved c =
     let p = c.args.parts.now in
-    let ps = entries c.args.keys.now in
     let t = is_stale_at p.head (world_of p) c.args.index in
-    walk-less t ps (pairs-ordered (content_of p) c.requires.stands.stands c.args.index ps c.requires.keys) c.in-Some.pair c.loop-next.next c.next_after-next.result
-    c.in-Some.is c.next_after-next.ensures
-
-pub loop-next-preserved : goal.loop-next-preserved
-loop-next-preserved c =
-    let p = c.args.parts.now in
-    let ps = entries c.args.keys.now in
-    let t = is_stale_at p.head (world_of p) c.args.index in
-    subst (IsWalk t ps) (sym c.next_after-next.ensures)
-    (walk-next t ps (pairs-ordered (content_of p) c.requires.stands.stands c.args.index ps c.requires.keys) c.in-Some.pair
-    (sym c.is_stale_pair.ensures ∙ c.if-is_stale_pair.false) (subst (IsWalk t ps) c.in-Some.is c.loop-next.invariant))
+    page-unfound t c.args.keys.now c.loop-page.at c.in-Some-checked_add.next c.in-Some.page.now (sym c.in-Some.ensures.some)
+    c.in-Some-checked_add.ensures.1 c.loop-page.invariant (sym c.has_stale_page.ensures ∙ c.if-has_stale_page.false)
