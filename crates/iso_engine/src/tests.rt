@@ -112,7 +112,7 @@ const CASES: [(&[&str], &[u8], &[u8], u8); 25] = [
     (
         &["serial"],
         b"DB2ISO 1\nTABLE T (N INTEGER)\nCONNECT A\nBEGIN\nA: DELETE FROM T WITH RR\nA: COMMIT\nEND\n",
-        b"5 A SQLCODE 100 ROWS 0\n6 A SQLCODE 0\nEND\n",
+        b"5 A SQLCODE 100\n6 A SQLCODE 0\nEND\n",
         0,
     ),
     (
