@@ -146,6 +146,5 @@ pub fn ready_task(
     due_steps_may_be_made();
     let mut task = opened_task(alloc, script, parts, conn, task)?;
     quieten(alloc, parts, conn, &mut task);
-    quieten(alloc, parts, conn, &mut task);
     Ok(task)
 }

@@ -1,5 +1,5 @@
 //! What a step answers that records nothing: the end of a wait, that nothing is left to undo, that there is no savepoint.
-ghost use Rattle.std.specs.Prelude.{◌≡◌, ◌<◌, length, false, true, if◌then◌else◌, None, Some};
+ghost use Rattle.std.specs.Prelude.{◌≡◌, ◌<◌, is_some, length, false, true, if◌then◌else◌, None, Some};
 ghost use Rattle.iso_conduct.specs.Conduct.{has_left, quiet, quiet_back, quiet_claim, quieted};
 ghost use Rattle.iso_conduct.specs.Points.{due};
 ghost use Rattle.iso_conduct.specs.declared.moves.Told.{Told as Telling};
@@ -97,17 +97,35 @@ fn quiet_answer(parts: &Parts, conn: Conn, step: &Move) -> Option<Told>
     }
 }
 
-/// Tells the task what its step answers that records nothing, if it does.
+/// Tells the task what its step answers that records nothing: whether it does.
+fn quieten_once(alloc: Global, parts: &Parts, conn: Conn, task: &mut Task) -> bool
+    requires stands { StandsFor parts.now }
+    requires conn { conn.0 < length parts.now.head.conns }
+    requires runs { RunsForBack (world_of parts.now) conn (due task.old) }
+    ensures task { task.new ≡ quieted (world_of parts.now) conn task.old }
+    ensures told { result ≡ is_some (quiet (world_of parts.now) conn (due task.old)) }
+{
+    match quiet_answer(parts, conn, &task.next()) {
+        Some(told) => {
+            match task.told(alloc, told) {
+                Ok(()) => {}
+                Err(_) => unreachable!(),
+            }
+            true
+        }
+        None => false,
+    }
+}
+
+/// Tells the task what its step answers that records nothing, if it does; and then the same of the step that is due then.
 pub fn quieten(alloc: Global, parts: &Parts, conn: Conn, task: &mut Task)
     requires stands { StandsFor parts.now }
     requires conn { conn.0 < length parts.now.head.conns }
     requires runs { RunsForBack (world_of parts.now) conn (due task.old) }
-    ensures { task.new ≡ quieted (world_of parts.now) conn task.old }
+    requires later { RunsForBack (world_of parts.now) conn (due (quieted (world_of parts.now) conn task.old)) }
+    ensures { task.new ≡ quieted (world_of parts.now) conn (quieted (world_of parts.now) conn task.old) }
 {
-    if let Some(told) = quiet_answer(parts, conn, &task.next()) {
-        match task.told(alloc, told) {
-            Ok(()) => {}
-            Err(_) => unreachable!(),
-        }
+    if quieten_once(alloc, parts, conn, task) {
+        quieten_once(alloc, parts, conn, task);
     }
 }

@@ -1,11 +1,12 @@
-//! The law that the step of an agent which can go on is one that its call allows.
+//! The laws that the step of an agent which can go on is one that its call allows, and that its entry may stand.
 
-ghost use Rattle.std.specs.Prelude.{◌≡◌, true, List, Some};
-ghost use Rattle.iso_conduct.specs.Conduct.{Conduct, point, ready};
+ghost use Rattle.std.specs.Prelude.{◌≡◌, false, true, List, Some};
+ghost use Rattle.iso_conduct.specs.Conduct.{Conduct, made, point, ready};
 ghost use Rattle.iso_conduct.specs.Points.{Point};
 ghost use Rattle.iso_conduct.specs.Standing.{MayGoOn};
 ghost use Rattle.iso_history.specs.After.{world};
-ghost use Rattle.iso_history.specs.Legal.{Ground};
+ghost use Rattle.iso_history.specs.Legal.{Allowed, Ground};
+ghost use Rattle.iso_history.specs.Makers.{by_agent};
 ghost use Rattle.iso_history.specs.declared.entry.Entry.{Entry};
 ghost use Rattle.iso_script.specs.Sound.{IsSound};
 ghost use Rattle.iso_script.specs.declared.script.Script.{Script};
@@ -22,4 +23,13 @@ pub fn due_steps_may_be_made()
         → GoesOn (world script.head es) c
         → ready script.head script.lines (world script.head es) c (point script.head script.lines es c) ≡ Some p
         → MayGoOn script.head (world script.head es) c p }
+{}
+
+/// So what conduct makes of such a connection may stand, while the history is not finished: legality alone is asked for.
+pub fn due_steps_stand()
+    ensures { (script : Script) (es : List Entry) (c : Conn) (p : Point) → IsSound script → Ground script.head es
+        → Conduct script.head script.lines es c → is_conn script.head c ≡ true → GoesOn (world script.head es) c
+        → (world script.head es).pace.finished ≡ false
+        → ready script.head script.lines (world script.head es) c (point script.head script.lines es c) ≡ Some p
+        → Allowed script.head (world script.head es) (by_agent c (made script.head (world script.head es) c p)) }
 {}

@@ -3,4 +3,4 @@
 
 mod laws;
 
-pub use laws::due_steps_may_be_made;
+pub use laws::{due_steps_may_be_made, due_steps_stand};

@@ -39,8 +39,8 @@ quieten-requires-clause-runs c =
     c.requires.conduct (lt-ltb conn.0 (length p.head.conns) c.requires.conn) c.requires.goes is in
     back-runs p.head w conn t may
 
-pub quieten-requires-2-clause-runs : goal.quieten-requires-2-clause-runs
-quieten-requires-2-clause-runs c =
+pub quieten-requires-clause-later : goal.quieten-requires-clause-later
+quieten-requires-clause-later c =
     let p = c.args.parts.now in
     let es = p.history.items in
     let lines = c.args.script.now.lines in
@@ -53,8 +53,7 @@ quieten-requires-2-clause-runs c =
     → ready h lines (world h es) conn (point h lines es conn) ≡ Some first → MayGoOn h (world h es) conn first) (sym c.requires.head)
     (c.due_steps_may_be_made.ensures c.args.script.now es conn first c.requires.sound) c.requires.stands.stands.ground
     c.requires.conduct (lt-ltb conn.0 (length p.head.conns) c.requires.conn) c.requires.goes is in
-    subst (λ (x : Point). RunsForBack w conn (due x)) (sym c.quieten.ensures)
-    (back-runs p.head w conn (quieted w conn t) (subst (MayGoOn p.head w conn) (sym (quieted-thrice w conn t)) may))
+    back-runs p.head w conn (quieted w conn t) (subst (MayGoOn p.head w conn) (sym (quieted-thrice w conn t)) may)
 
 pub returns-clause-may : goal.returns-clause-may
 returns-clause-may c =
@@ -70,4 +69,4 @@ returns-clause-may c =
     → ready h lines (world h es) conn (point h lines es conn) ≡ Some first → MayGoOn h (world h es) conn first) (sym c.requires.head)
     (c.due_steps_may_be_made.ensures c.args.script.now es conn first c.requires.sound) c.requires.stands.stands.ground
     c.requires.conduct (lt-ltb conn.0 (length p.head.conns) c.requires.conn) c.requires.goes is in
-    subst (MayGoOn p.head w conn) (sym (c.quieten-2.ensures ∙ ap (quieted w conn) c.quieten.ensures)) may
+    subst (MayGoOn p.head w conn) (sym c.quieten.ensures) may

@@ -3,7 +3,7 @@ use Rattle.iso_agent.proofs.Quieting.{quiet-answers}
 use Rattle.iso_conduct.specs.Conduct.{quiet}
 use Rattle.iso_conduct.specs.Points.{due}
 use Rattle.iso_state.specs.Stands.{world_of}
-use Rattle.iso_agent.proofs.quiet.quieten.Goals as goal
+use Rattle.iso_agent.proofs.quiet.quieten_once.Goals as goal
 
 pub told-requires-clause-answers : goal.told-requires-clause-answers
 told-requires-clause-answers c =
