@@ -41,13 +41,7 @@ fn run_turns(alloc: Global, script: &Script, parts: &mut Parts, agents: &mut Vec
 }
 
 /// Turns from the empty history to Finish, by the words of a seed.
-fn run_seeded(
-    alloc: Global,
-    script: &Script,
-    parts: &mut Parts,
-    agents: &mut Vec<Agent>,
-    seed: u64,
-)
+fn run_seeded(alloc: Global, script: &Script, parts: &mut Parts, agents: &mut Vec<Agent>, seed: u64)
     requires stands { StandsFor parts.old }
     requires head { parts.old.head ≡ script.now.head }
     requires sound { IsSound script.now }
