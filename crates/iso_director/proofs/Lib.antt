@@ -6,3 +6,4 @@ pub mod Tries
 pub mod Halts
 pub mod Leads
 pub mod FreshAlong
+pub mod Ables

@@ -95,7 +95,7 @@ impl Director {
 
     /// Whether no pair is stale. All pairs are looked at only where it is not known yet, or where an entry has committed or undone
     /// since.
-    fn is_fresh(&mut self, parts: &Parts) -> bool
+    pub(crate) fn is_fresh(&mut self, parts: &Parts) -> bool
         requires stands { StandsFor parts.now }
         requires fresh { WasFresh parts.now.head parts.now.history.items self.old.fresh }
         ensures fresh { WasFresh parts.now.head parts.now.history.items self.new.fresh }

@@ -1,6 +1,7 @@
 //! The dispatcher of a run: it takes the lines, ends deadlocks, closes the connections, one entry a call.
 #![tactic(auto)]
 
+mod able;
 mod director;
 mod freshness;
 mod taking;

@@ -6,11 +6,11 @@ use Rattle.std.proofs.lemmas.List.{append-nil}
 use Rattle.iso_conduct.proofs.Wholes.{whole}
 use Rattle.iso_engine.proofs.Stops.{none-stopped, one-of, unstopped}
 use Rattle.iso_engine.specs.Stopping.{status_of}
+use Rattle.iso_engine.specs.declared.job.Course.{Course}
 use Rattle.iso_engine.specs.Job.{IsAnswered, IsBadWith, IsComplete, IsJudged, IsOutcome, IsRunOf, IsScript, IsTold, RefusedWith, TellsRun, Telling, Refuses}
 use Rattle.iso_history.specs.declared.entry.Entry.{Entry}
 use Rattle.iso_io.specs.Moves.{AppendsPart}
 use Rattle.iso_render.specs.Outputs.{output_text}
-use Rattle.iso_render.specs.declared.outputs.Output.{Output}
 use Rattle.iso_script.proofs.Exact.{not_both, one_script}
 use Rattle.iso_script.specs.Reading.{reads}
 use Rattle.iso_script.specs.declared.script.Script.{Script}
@@ -61,20 +61,20 @@ told-unrefused text history status old new (inl t) z = picked-unrefused history 
 told-unrefused text history status old new (inr (inl t)) z = let q : 2 ≡ 4 = sym z ∙ t.0 in omega arith
 told-unrefused text history status old new (inr (inr t)) z = let q : 2 ≡ 5 = sym z ∙ t.0 in omega arith
 
-run-unrefused : (output : Output) (script : Script) (status : ℕ) (history : List Entry) (old new : Option (List ℕ)) → IsTold output script status history old new → status ≡ 2 → ⊥
-run-unrefused output script status history old new (inl r) z = told-unrefused (output_text output script history) history status old new r.1 z
-run-unrefused output script status history old new (inr r) z = let q : 2 ≡ 5 = sym z ∙ r.1 in omega arith
+run-unrefused : (course : Course) (script : Script) (status : ℕ) (history : List Entry) (old new : Option (List ℕ)) → IsTold course script status history old new → status ≡ 2 → ⊥
+run-unrefused course script status history old new (inl r) z = told-unrefused (output_text course.output script history) history status old new r.1 z
+run-unrefused course script status history old new (inr r) z = let q : 2 ≡ 5 = sym z ∙ r.1 in omega arith
 
 -- what was taken of all that a source told, and what came of it, answers for all of it
-module _ (output : Output) (a left old new : Option (List ℕ)) (all bytes : List ℕ) (status : ℕ) (history : List Entry)
-    (taken : Consumes a left bytes) (told : a ≡ Some all) (o : IsOutcome (IsTold output) bytes left status history old new) where
+module _ (course : Course) (a left old new : Option (List ℕ)) (all bytes : List ℕ) (status : ℕ) (history : List Entry)
+    (taken : Consumes a left bytes) (told : a ≡ Some all) (o : IsOutcome (IsTold course) bytes left status history old new) where
   all-read : IsAtEnd left → (bytes ≡ all) × (left ≡ Some [])
   all-read end = read-all a left bytes all taken end told
 
   no-more : length bytes ≤ length all
   no-more = taken-within a left bytes all taken told
 
-  judged-ended : IsOutcome (IsTold output) bytes left status history old new → IsJudged status history → left ≡ Some []
+  judged-ended : IsOutcome (IsTold course) bytes left status history old new → IsJudged status history → left ≡ Some []
   judged-ended (inl r) (inl began) = absurd (began r.3)
   judged-ended (inl r) (inr (inl z)) = absurd (let q : 2 ≡ 0 = sym r.0 ∙ z in omega arith)
   judged-ended (inl r) (inr (inr (inl z))) = absurd (let q : 2 ≡ 4 = sym r.0 ∙ z in omega arith)
@@ -83,12 +83,12 @@ module _ (output : Output) (a left old new : Option (List ℕ)) (all bytes : Lis
   judged-ended (inr (inl u)) (inr z) = absurd (unjudged status u.0 z)
   judged-ended (inr (inr r)) j = (all-read r.0).1
 
-  headline-of : IsOutcome (IsTold output) bytes left status history old new → (script : Script) → reads all script → (history ≡ [] → ⊥)
-      → IsTold output script status history old new
+  headline-of : IsOutcome (IsTold course) bytes left status history old new → (script : Script) → reads all script → (history ≡ [] → ⊥)
+      → IsTold course script status history old new
   headline-of (inl r) script is began = absurd (began r.3)
   headline-of (inr (inl u)) script is began = absurd (began u.1)
   headline-of (inr (inr r)) script is began =
-      subst (λ s. IsTold output s status history old new)
+      subst (λ s. IsTold course s status history old new)
       (one_script all r.2 script (subst (λ b. reads b r.2) (all-read r.0).0 r.3) is) r.4
 
   refuses-all : (text : List ℕ) → RefusedWith bytes left text → Refuses all text
@@ -96,51 +96,51 @@ module _ (output : Output) (a left old new : Option (List ℕ)) (all bytes : Lis
   refuses-all text (inr b) = let same = (all-read b.0).0 in
       inr (subst (λ x. length x ≤ 1048576) same b.1, subst (λ x. IsBadWith x text) same b.2)
 
-  refused-of : IsOutcome (IsTold output) bytes left status history old new → status ≡ 2 → (text : List ℕ) × Refuses all text × AppendsPart old new text
+  refused-of : IsOutcome (IsTold course) bytes left status history old new → status ≡ 2 → (text : List ℕ) × Refuses all text × AppendsPart old new text
   refused-of (inl r) z = (r.1, refuses-all r.1 r.2, r.4)
   refused-of (inr (inl u)) z = absurd (unrefused status u.0 z)
-  refused-of (inr (inr r)) z = absurd (run-unrefused output r.2 status history old new r.4 z)
+  refused-of (inr (inr r)) z = absurd (run-unrefused course r.2 status history old new r.4 z)
 
-  exact-of : IsOutcome (IsTold output) bytes left status history old new → (text : List ℕ) → Refuses all text → (status ≡ 2) ⊎ ((status ≡ 3) ⊎ (status ≡ 5))
+  exact-of : IsOutcome (IsTold course) bytes left status history old new → (text : List ℕ) → Refuses all text → (status ≡ 2) ⊎ ((status ≡ 3) ⊎ (status ≡ 5))
   exact-of (inl r) text f = inl r.0
   exact-of (inr (inl u)) text f = inr u.0
   exact-of (inr (inr r)) text (inl l) = absurd (let same : bytes ≡ all = (all-read r.0).0 in let few : length bytes ≤ 1048576 = r.1 in
       let n : length bytes ≡ length all = ap length same in let many : 1048577 ≤ length all = l.0 in omega (arith, few, n, many))
   exact-of (inr (inr r)) text (inr b) = absurd (not_both all r.2 b.1.0 b.1.1 (subst (λ x. reads x r.2) (all-read r.0).0 r.3) b.1.2)
 
-  pub answered : IsAnswered output all left status history old new
+  pub answered : IsAnswered course all left status history old new
   answered = record { ended = judged-ended o; headline = headline-of o; refused = refused-of o; exact = exact-of o }
 
 -- a run whose transcript is written whole is complete
-module _ (output : Output) (script : Script) (status : ℕ) (history : List Entry) (left old new : Option (List ℕ)) (end : left ≡ Some []) (sink : status ≡ 4 → ⊥) where
+module _ (course : Course) (script : Script) (status : ℕ) (history : List Entry) (left old new : Option (List ℕ)) (end : left ≡ Some []) (sink : status ≡ 4 → ⊥) where
   abbrev Ends : Type 0
-  Ends = IsComplete output script status history left old new ⊎ (status ≡ 5)
+  Ends = IsComplete course script status history left old new ⊎ (status ≡ 5)
 
-  picked-complete : IsRunOf script history → status ≡ status_of history → Appends old new (output_text output script history)
+  picked-complete : IsRunOf course.seed script history → status ≡ status_of history → Appends old new (output_text course.output script history)
       → (status_of history ≡ 0) ⊎ ((status_of history ≡ 5) ⊎ (status_of history ≡ 6)) → Ends
   picked-complete r e a (inl z) =
       inl (end, a, inl (e ∙ z, whole script history r.legal r.finished (unstopped script.head history (none-stopped history z))))
   picked-complete r e a (inr (inl f)) = inr (e ∙ f)
   picked-complete r e a (inr (inr s)) = inl (end, a, inr (e ∙ s))
 
-  told-complete : IsTold output script status history old new → Ends
+  told-complete : IsTold course script status history old new → Ends
   told-complete (inl (r, inl t)) = picked-complete r t.0 t.1 (one-of history)
   told-complete (inl (r, inr (inl t))) = absurd (sink t.0)
   told-complete (inl (r, inr (inr t))) = inr t.0
   told-complete (inr t) = inr t.1
 
 -- a script that a source told, and that neither stream kept back, is run and told whole
-pub complete : (output : Output) (a left old new : Option (List ℕ)) (all bytes : List ℕ) (status : ℕ) (history : List Entry)
-    → Consumes a left bytes → a ≡ Some all → IsOutcome (IsTold output) bytes left status history old new → (script : Script) → IsScript all script
-    → (status ≡ 3 → ⊥) → (status ≡ 4 → ⊥) → IsComplete output script status history left old new ⊎ (status ≡ 5)
-complete output a left old new all bytes status history taken told (inl r) script is source sink =
-    absurd (elim (refuses-all output a left old new all bytes status history taken told (inl r) r.1 r.2) [
+pub complete : (course : Course) (a left old new : Option (List ℕ)) (all bytes : List ℕ) (status : ℕ) (history : List Entry)
+    → Consumes a left bytes → a ≡ Some all → IsOutcome (IsTold course) bytes left status history old new → (script : Script) → IsScript all script
+    → (status ≡ 3 → ⊥) → (status ≡ 4 → ⊥) → IsComplete course script status history left old new ⊎ (status ≡ 5)
+complete course a left old new all bytes status history taken told (inl r) script is source sink =
+    absurd (elim (refuses-all course a left old new all bytes status history taken told (inl r) r.1 r.2) [
       | inl l ↦ let few : length all ≤ 1048576 = is.0 in let many : 1048577 ≤ length all = l.0 in omega (arith, few, many)
       | inr b ↦ not_both all script b.1.0 b.1.1 is.1 b.1.2
     ])
-complete output a left old new all bytes status history taken told (inr (inl u)) script is source sink =
+complete course a left old new all bytes status history taken told (inr (inl u)) script is source sink =
     elim u.0 [ inl f ↦ absurd (source f) | inr m ↦ inr m ]
-complete output a left old new all bytes status history taken told (inr (inr r)) script is source sink =
-    let same = all-read output a left old new all bytes status history taken told (inr (inr r)) r.0 in
-    told-complete output script status history left old new same.1 sink
-    (subst (λ s. IsTold output s status history old new) (one_script all r.2 script (subst (λ b. reads b r.2) same.0 r.3) is.1) r.4)
+complete course a left old new all bytes status history taken told (inr (inr r)) script is source sink =
+    let same = all-read course a left old new all bytes status history taken told (inr (inr r)) r.0 in
+    told-complete course script status history left old new same.1 sink
+    (subst (λ s. IsTold course s status history old new) (one_script all r.2 script (subst (λ b. reads b r.2) same.0 r.3) is.1) r.4)

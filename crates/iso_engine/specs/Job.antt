@@ -1,13 +1,13 @@
 -- The words of the command line, and what a run of the program answers and writes.
-use Rattle.std.specs.Prelude.{◌≡◌, ℕ, ◌≤◌, ◌⊎◌, List, [], ◌∷◌, ◌++◌, length, None, Bool, if◌then◌else◌, Option, Some, codes}
+use Rattle.std.specs.Prelude.{◌≡◌, ℕ, ◌≤◌, ◌⊎◌, List, [], ◌++◌, length, None, Bool, if◌then◌else◌, Option, Some, codes}
 use Rattle.std.specs.Fmt.{decimal}
 use Rattle.std.specs.Io.KnownBytes.{Appends, IsAtEnd}
 use Rattle.iso_conduct.specs.Legal.{AreGuarded, IsFinished, IsLegal}
-use Rattle.iso_conduct.specs.Schedule.{Scheduled}
 use Rattle.iso_conduct.specs.Whole.{IsWhole}
 use Rattle.iso_engine.specs.Stopping.{status_of}
 use Rattle.iso_engine.specs.declared.job.Aim.{Aim}
 use Rattle.iso_engine.specs.declared.job.Aim.TheVariants.{Count, Run}
+use Rattle.iso_engine.specs.declared.job.Course.{Course}
 use Rattle.iso_history.specs.declared.entry.Entry.{Entry}
 use Rattle.iso_words.specs.declared.parts.Job.{Job}
 use Rattle.iso_words.specs.declared.parts.Job.TheVariants.{Check, Serial}
@@ -20,6 +20,7 @@ use Rattle.iso_script.specs.Reading.{bad, place_at, reads, word_of}
 use Rattle.iso_script.specs.declared.fault.LineCause.{LineCause}
 use Rattle.iso_script.specs.declared.fault.LineCause.TheVariants as cause
 use Rattle.iso_script.specs.declared.script.Script.{Script}
+use Rattle.iso_serial.specs.Seeds.{IsScheduled}
 
 -- what other words are answered
 abbrev pub usage : List ℕ
@@ -46,10 +47,11 @@ RefusedWith bytes left text =
 abbrev pub Refuses : List ℕ → List ℕ → Type 0
 Refuses all text = ((1048577 ≤ length all) × (text ≡ too_long)) ⊎ ((length all ≤ 1048576) × IsBadWith all text)
 
--- a run that began: its history is legal and that of the serial schedule, guarded in all five ways, and ends with Finish
-pub record IsRunOf (script : Script) (history : List Entry) : Type 0 where
+-- a run that began: its history is legal and that of the serial schedule, with this seed or without one, guarded in all five ways,
+-- and ends with Finish
+pub record IsRunOf (seed : Option ℕ) (script : Script) (history : List Entry) : Type 0 where
   pub legal : IsLegal script history
-  pub scheduled : Scheduled script.head script.lines None history
+  pub scheduled : IsScheduled script.head script.lines seed history
   pub guarded : AreGuarded script history
   pub finished : IsFinished history
 
@@ -60,9 +62,9 @@ TellsRun text history status old new =
     ((status ≡ status_of history) × Appends old new text) ⊎ (((status ≡ 4) × AppendsPart old new text) ⊎ ((status ≡ 5) × Appends old new []))
 
 -- what a run of the script leaves: the history and what is written of it; or nothing, where memory was wanting before its first entry
-abbrev pub IsTold : Output → Script → ℕ → List Entry → Option (List ℕ) → Option (List ℕ) → Type 0
-IsTold output script status history old new =
-    (IsRunOf script history × TellsRun (output_text output script history) history status old new) ⊎ ((history ≡ []) × (status ≡ 5) × Appends old new [])
+abbrev pub IsTold : Course → Script → ℕ → List Entry → Option (List ℕ) → Option (List ℕ) → Type 0
+IsTold course script status history old new =
+    (IsRunOf course.seed script history × TellsRun (output_text course.output script history) history status old new) ⊎ ((history ≡ []) × (status ≡ 5) × Appends old new [])
 
 -- a text is written without a run: whole with status 0, in part where the sink failed, or not at all where there was no memory for it
 abbrev pub IsSaid : List ℕ → ℕ → List Entry → Option (List ℕ) → Option (List ℕ) → Type 0
@@ -77,10 +79,18 @@ IsCounted script status history old new = IsSaid (count_text script) status hist
 abbrev pub output_of : Bool → Output
 output_of trace = if trace then Traced else Transcript
 
+-- how the job `serial` runs a script
+abbrev pub course_of : Option ℕ → Bool → Course
+course_of seed trace = record { seed = seed; output = output_of trace }
+
+-- how the job `mix` runs one: without a seed for its schedule
+abbrev pub mixing : Course
+mixing = record { seed = None; output = Summary }
+
 -- what the job `mix` leaves: the script that the seed makes was run, and its summary written; or memory was wanting before its first entry
 abbrev pub IsMixed : ℕ → ℕ → ℕ → List Entry → Option (List ℕ) → Option (List ℕ) → Type 0
 IsMixed seed count status history old new =
-    ((script : Script) × reads (generated seed count) script × IsTold Summary script status history old new)
+    ((script : Script) × reads (generated seed count) script × IsTold mixing script status history old new)
     ⊎ ((history ≡ []) × (status ≡ 5) × Appends old new [])
 
 -- what is made of a script that was read
@@ -98,12 +108,12 @@ IsUnread status history old new = ((status ≡ 3) ⊎ (status ≡ 5)) × (histor
 
 -- what is made of it by the aim of the job
 abbrev pub told_by : Aim → Telling
-told_by (Run output) = IsTold output
+told_by (Run course) = IsTold course
 told_by Count = IsCounted
 
 -- the aim of a job that reads a script
 abbrev pub aim_of : Option Job → Option Aim
-aim_of (Some (Serial trace)) = Some (Run (output_of trace))
+aim_of (Some (Serial seed trace)) = Some (Run (course_of seed trace))
 aim_of (Some Check) = Some Count
 aim_of _ = None
 
@@ -125,16 +135,16 @@ IsJudged status history = (history ≡ [] → ⊥) ⊎ ((status ≡ 0) ⊎ ((sta
 -- left. `headline`: whatever script they read as, where its run began, its history is legal, and the bytes written are its
 -- transcript. `refused`, `exact`: they are refused only where they are to be, with that text, and always there, but where the
 -- source failed or memory was wanting
-pub record IsAnswered (output : Output) (all : List ℕ) (left : Option (List ℕ)) (status : ℕ) (history : List Entry) (old new : Option (List ℕ)) : Type 0 where
+pub record IsAnswered (course : Course) (all : List ℕ) (left : Option (List ℕ)) (status : ℕ) (history : List Entry) (old new : Option (List ℕ)) : Type 0 where
   pub ended : IsJudged status history → left ≡ Some []
-  pub headline : (script : Script) → reads all script → (history ≡ [] → ⊥) → IsTold output script status history old new
+  pub headline : (script : Script) → reads all script → (history ≡ [] → ⊥) → IsTold course script status history old new
   pub refused : status ≡ 2 → (text : List ℕ) × Refuses all text × AppendsPart old new text
   pub exact : (text : List ℕ) → Refuses all text → (status ≡ 2) ⊎ ((status ≡ 3) ⊎ (status ≡ 5))
 
 -- the source was read to its end, and all of the transcript is written; with status 0 every line is answered
-abbrev pub IsComplete : Output → Script → ℕ → List Entry → Option (List ℕ) → Option (List ℕ) → Option (List ℕ) → Type 0
-IsComplete output script status history left old new =
-    (left ≡ Some []) × Appends old new (output_text output script history) × (((status ≡ 0) × IsWhole script history) ⊎ (status ≡ 6))
+abbrev pub IsComplete : Course → Script → ℕ → List Entry → Option (List ℕ) → Option (List ℕ) → Option (List ℕ) → Type 0
+IsComplete course script status history left old new =
+    (left ≡ Some []) × Appends old new (output_text course.output script history) × (((status ≡ 0) × IsWhole script history) ⊎ (status ≡ 6))
 
 -- bytes that are no more than a script may have, and read as this script
 abbrev pub IsScript : List ℕ → Script → Type 0

@@ -1,7 +1,7 @@
 ghost use Rattle.std.specs.Prelude.{◌≡◌, ℕ, ◌≤◌, ◌⊎◌, Some, None, Option, ◌↔◌, List, [], ◌∷◌, ◌++◌, string_bytes, length, true, IsTrue, IfOk, codes};
 ghost use Rattle.std.specs.Fmt.{decimal};
 ghost use Rattle.std.specs.Io.KnownBytes.{Appends, Consumes, IsAtEnd};
-ghost use Rattle.iso_engine.specs.Job.{IsAnswered, IsComplete, IsCounted, IsMixed, IsOutcome, IsRefusal, IsSaid, IsScript, IsTold, TellsRefusal, IsWritten, aim_of, output_of, refusal_at, told_by, usage};
+ghost use Rattle.iso_engine.specs.Job.{IsAnswered, IsComplete, IsCounted, IsMixed, IsOutcome, IsRefusal, IsSaid, IsScript, IsTold, TellsRefusal, IsWritten, aim_of, course_of, output_of, refusal_at, told_by, usage};
 ghost use Rattle.iso_io.specs.Moves.{AppendsPart, HasRisen};
 ghost use Rattle.iso_script.specs.Reading.{place_at, word_of};
 ghost use Rattle.iso_script.specs.Sound.{IsSound};
@@ -110,27 +110,34 @@ fn stops_for_memory(act: &Act) -> bool
     )
 }
 
+/// How a script is run: with a seed for its schedule or without one, and what is written of the run.
+#[derive(Clone, Copy)]
+struct Course {
+    seed: Option<u64>,
+    output: Output,
+}
+
 /// What is made of a script that was read.
 #[derive(Clone, Copy)]
 enum Aim {
-    /// It is run, and this is written of the run.
-    Run(Output),
+    /// It is run so.
+    Run(Course),
     /// Its lines are counted.
     Count,
 }
 
 /// Runs a script and writes what is to be written of the run.
-fn run_script<K: Sink>(alloc: Global, script: &Script, output: Output, sink: &mut K) -> Report
+fn run_script<K: Sink>(alloc: Global, script: &Script, course: Course, sink: &mut K) -> Report
     requires sound { IsSound script.now }
-    ensures told { IsTold output script.now result.status result.history.items (K.held sink.old) (K.held sink.new) }
+    ensures told { IsTold course script.now result.status result.history.items (K.held sink.old) (K.held sink.new) }
     ensures fault { result.status ≡ 4 → HasRisen (K.faults sink.old) (K.faults sink.new) }
     ensures read { (result.status ≡ 3 → ⊥) × (result.status ≡ 2 → ⊥) }
 {
-    let history = match run_serial(alloc, script) {
+    let history = match run_serial(alloc, script, course.seed) {
         Ok(history) => history,
         Err(_) => return without_run(5, alloc),
     };
-    let text = match write_output(alloc, output, script, &history) {
+    let text = match write_output(alloc, course.output, script, &history) {
         Ok(text) => text,
         Err(_) => return Report { status: 5, history },
     };
@@ -175,7 +182,7 @@ fn tell<K: Sink>(alloc: Global, script: &Script, aim: Aim, sink: &mut K) -> Repo
     ensures read { (result.status ≡ 3 → ⊥) × (result.status ≡ 2 → ⊥) }
 {
     match aim {
-        Aim::Run(output) => run_script(alloc, script, output, sink),
+        Aim::Run(course) => run_script(alloc, script, course, sink),
         Aim::Count => say_count(alloc, script, sink),
     }
 }
@@ -258,7 +265,13 @@ fn mix<K: Sink>(alloc: Global, seed: u64, count: u32, sink: &mut K) -> Report
         return without_run(5, alloc);
     }
     match Script::read(alloc, text.as_slice()) {
-        Ok(script) => run_script(alloc, &script, Output::Summary, sink),
+        Ok(script) => {
+            let course = Course {
+                seed: None,
+                output: Output::Summary,
+            };
+            run_script(alloc, &script, course, sink)
+        }
         Err(_) => without_run(5, alloc),
     }
 }
@@ -274,8 +287,18 @@ fn output_of(trace: bool) -> Output
     }
 }
 
-/// Runs the job that the words name: `serial [--trace]` reads a script from the source, runs it on this thread, and writes its
-/// transcript to the sink, with its trace behind it; `check` reads a script and writes how many lines it has; `generate --seed N
+/// How the job `serial` runs a script.
+fn course_of(seed: Option<u64>, trace: bool) -> Course
+    ensures { result ≡ course_of seed trace }
+{
+    Course {
+        seed,
+        output: output_of(trace),
+    }
+}
+
+/// Runs the job that the words name: `serial [--seed N] [--trace]` reads a script from the source, runs it on this thread, with N
+/// as the seed of its schedule, and writes its transcript to the sink, with its trace behind it; `check` reads a script and writes how many lines it has; `generate --seed N
 /// --count M` writes the script that a seed makes; `mix --seed N --count M` runs that script and writes the summary of the run.
 ///
 /// Status 1: the words name no job. 3: the source failed. 2: the script is refused, at its first
@@ -300,12 +323,12 @@ pub fn db2iso<R: Threads + Wait + Sync, S: Source, K: Sink, G: Gate + Sync>(
     ensures sink_fault { result.status ≡ 4 → HasRisen (K.faults sink.old) (K.faults sink.new) }
     ensures outcome { (aim : Aim) → aim_of (job_of (texts words.now)) ≡ Some aim → (bytes : List ℕ) × Consumes (S.left source.old) (S.left source.new) bytes
         × IsOutcome (told_by aim) bytes (S.left source.new) result.status result.history.items (K.held sink.old) (K.held sink.new) }
-    ensures answered { (output : Output) → aim_of (job_of (texts words.now)) ≡ Some (Run output) → (all : List ℕ) → S.left source.old ≡ Some all
-        → IsAnswered output all (S.left source.new) result.status result.history.items (K.held sink.old) (K.held sink.new) }
-    ensures complete { (output : Output) → aim_of (job_of (texts words.now)) ≡ Some (Run output) → (bytes : List ℕ) → S.left source.old ≡ Some bytes
+    ensures answered { (course : Course) → aim_of (job_of (texts words.now)) ≡ Some (Run course) → (all : List ℕ) → S.left source.old ≡ Some all
+        → IsAnswered course all (S.left source.new) result.status result.history.items (K.held sink.old) (K.held sink.new) }
+    ensures complete { (course : Course) → aim_of (job_of (texts words.now)) ≡ Some (Run course) → (bytes : List ℕ) → S.left source.old ≡ Some bytes
         → (script : Program) → IsScript bytes script
         → ¬ HasRisen (S.faults source.old) (S.faults source.new) → ¬ HasRisen (K.faults sink.old) (K.faults sink.new)
-        → IsComplete output script result.status result.history.items (S.left source.new) (K.held sink.old) (K.held sink.new) ⊎ (result.status ≡ 5) }
+        → IsComplete course script result.status result.history.items (S.left source.new) (K.held sink.old) (K.held sink.new) ⊎ (result.status ≡ 5) }
     ensures generated { (seed count : ℕ) → job_of (texts words.now) ≡ Some (Generate seed count)
         → IsSaid (generated seed count) result.status result.history.items (K.held sink.old) (K.held sink.new) }
     ensures mixed { (seed count : ℕ) → job_of (texts words.now) ≡ Some (Mix seed count)
@@ -317,8 +340,8 @@ pub fn db2iso<R: Threads + Wait + Sync, S: Source, K: Sink, G: Gate + Sync>(
             let _ = write_whole(sink, b"USAGE\n");
             without_run(1, alloc)
         }
-        Some(Job::Serial { trace }) => {
-            tell_source(alloc, Aim::Run(output_of(trace)), source, sink)
+        Some(Job::Serial { seed, trace }) => {
+            tell_source(alloc, Aim::Run(course_of(seed, trace)), source, sink)
         }
         Some(Job::Check) => tell_source(alloc, Aim::Count, source, sink),
         Some(Job::Generate { seed, count }) => make(alloc, seed, count, sink),

@@ -1,5 +1,5 @@
 -- A script has one serial run, stops for want of memory aside.
-use Rattle.std.proofs.Common.{◌≡◌, ℕ, Bool, true, false, not, ◌||◌, List, [], ◌∷◌, refl, sym, ap, ◌∙◌, subst, Option, Some, None}
+use Rattle.std.proofs.Common.{◌≡◌, ℕ, ◌+◌, length, arith, Bool, true, false, not, ◌||◌, List, [], ◌∷◌, refl, sym, ap, ◌∙◌, subst, Option, Some, None}
 use Rattle.std.specs.List.{list_any}
 use Rattle.std.specs.Prelude.{IsTrue}
 use Rattle.std.proofs.lemmas.Bool.{both_ways}
@@ -26,6 +26,7 @@ use Rattle.iso_script.specs.declared.script.Script.{Script}
 use Rattle.iso_types.specs.Head.{is_conn}
 use Rattle.iso_types.specs.declared.head.Head.{Head}
 use Rattle.iso_types.specs.declared.value.Conn.{Conn}
+use Rattle.iso_serial.specs.Seeds.{IsScheduled, words_of}
 
 one-some : {A : Type 0} (o : Option A) (x y : A) → o ≡ Some x → o ≡ Some y → x ≡ y
 one-some o x y p q = let e : Some x ≡ Some y = sym p ∙ q in cc
@@ -118,3 +119,11 @@ pub one-run : (script : Script) (words : Option (List ℕ)) (es fs : List Entry)
 one-run script words es fs le lf ee ef se sf ne nf =
     one-rest script.head script.lines (start script.head) script.lines (first_turns words) (λ c. None) es fs (rest-of script words es le ee se ne)
     (rest-of script words fs lf ef sf nf)
+
+-- the words of a seed: as many as both histories have entries schedule both
+pub one-seeded : (script : Script) (seed : Option ℕ) (es fs : List Entry) → IsLegal script es → IsLegal script fs → IsFinished es → IsFinished fs
+    → IsScheduled script.head script.lines seed es → IsScheduled script.head script.lines seed fs
+    → list_any (λ (e : Entry). stops_for_memory e.act) es ≡ false → list_any (λ (e : Entry). stops_for_memory e.act) fs ≡ false → es ≡ fs
+one-seeded script seed es fs le lf ee ef se sf ne nf =
+    one-run script (words_of seed (length es + length fs)) es fs le lf ee ef (se (length es + length fs) (omega arith))
+    (sf (length es + length fs) (omega arith)) ne nf

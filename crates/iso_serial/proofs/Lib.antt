@@ -1,9 +1,11 @@
 mod Alone
 pub mod Begins
 mod Circle
+mod Drawn
 pub mod Ends
 pub mod Heads
 mod Lines
+mod Picks
 mod Rests
 mod Scheduled
 mod Whole

@@ -1,7 +1,7 @@
 -- One more entry at the end of a serial run.
-use Rattle.std.proofs.Common.{◌≡◌, List, [], ◌∷◌, ◌++◌, find, refl, sym, ap, ◌∙◌, subst, Option, Some, None}
+use Rattle.std.proofs.Common.{◌≡◌, ℕ, List, [], ◌∷◌, ◌++◌, find, refl, sym, ap, ◌∙◌, subst, Option, Some, None}
 use Rattle.iso_conduct.specs.Pacing.{lines_after, lines_from, lines_left}
-use Rattle.iso_conduct.specs.Schedule.{Leads, Scheduled, ScheduledFrom, Turns, after_actor, turn, turns_after}
+use Rattle.iso_conduct.specs.Schedule.{Leads, Scheduled, ScheduledFrom, Turns, after_actor, first_turns, turn, turns_after}
 use Rattle.iso_conduct.specs.Schedule.Turns.{Round}
 use Rattle.iso_history.specs.After.{after, start, world, world_from}
 use Rattle.iso_history.specs.World.{World}
@@ -23,20 +23,20 @@ ScheduledFrom-snoc head w ls ts [] e g t l = (t, l, tt)
 ScheduledFrom-snoc head w ls ts (x ∷ xs) e g t l =
     (g.0, g.1, ScheduledFrom-snoc head (after head w x) (lines_after ls x.who x.act) (turns_after ts x.who) xs e g.2 t l)
 
-Scheduled-snoc : (head : Head) (lines : List Line) (es : List Entry) (e : Entry) → Scheduled head lines None es
-    → turn head (world head es) (lines_left lines es) (turns_from (Round None) es) ≡ Some e.who
+pub Scheduled-snoc : (head : Head) (lines : List Line) (words : Option (List ℕ)) (es : List Entry) (e : Entry) → Scheduled head lines words es
+    → turn head (world head es) (lines_left lines es) (turns_from (first_turns words) es) ≡ Some e.who
     → Leads head (world head es) (lines_left lines es) e.who e.act
-    → Scheduled head lines None (es ++ e ∷ [])
+    → Scheduled head lines words (es ++ e ∷ [])
 unfolding world lines_left Scheduled
-Scheduled-snoc head lines es e g t l = ScheduledFrom-snoc head (start head) lines (Round None) es e g t l
+Scheduled-snoc head lines words es e g t l = ScheduledFrom-snoc head (start head) lines (first_turns words) es e g t l
 
-turns_from-snoc : (ts : Turns) (es : List Entry) (e : Entry) → turns_from ts (es ++ e ∷ []) ≡ turns_after (turns_from ts es) e.who
+pub turns_from-snoc : (ts : Turns) (es : List Entry) (e : Entry) → turns_from ts (es ++ e ∷ []) ≡ turns_after (turns_from ts es) e.who
 turns_from-snoc ts [] e = refl
 turns_from-snoc ts (x ∷ xs) e = turns_from-snoc (turns_after ts x.who) xs e
 
-Scheduled-nil : (head : Head) (lines : List Line) → Scheduled head lines None []
+pub Scheduled-nil : (head : Head) (lines : List Line) (words : Option (List ℕ)) → Scheduled head lines words []
 unfolding Scheduled ScheduledFrom
-Scheduled-nil head lines = tt
+Scheduled-nil head lines words = tt
 
 -- entry 0 is the dispatcher's
 pub after-first : (script : Script) (new : List Entry) → HasMade script [] new Dispatcher → IsAfter script new Dispatcher
@@ -44,7 +44,7 @@ after-first script new m =
     let e : Entry = record { who = Dispatcher; act = m.act } in
     record {
       scheduled = subst (Scheduled script.head script.lines None) (sym m.history)
-          (Scheduled-snoc script.head script.lines [] e (Scheduled-nil script.head script.lines) refl m.leads);
+          (Scheduled-snoc script.head script.lines None [] e (Scheduled-nil script.head script.lines None) refl m.leads);
       turns = ap (turns_from (Round None)) m.history;
     }
 
@@ -57,6 +57,6 @@ after-next script old new last who a m found =
     ap (turn script.head (world script.head old) (lines_left script.lines old)) a.turns ∙ found in
     record {
       scheduled = subst (Scheduled script.head script.lines None) (sym m.history)
-          (Scheduled-snoc script.head script.lines old e a.scheduled whose m.leads);
+          (Scheduled-snoc script.head script.lines None old e a.scheduled whose m.leads);
       turns = ap (turns_from (Round None)) m.history ∙ (turns_from-snoc (Round None) old e ∙ ap (λ (t : Turns). turns_after t who) a.turns);
     }

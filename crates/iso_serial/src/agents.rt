@@ -32,7 +32,7 @@ fn has_run(turned: Turned) -> bool
 }
 
 /// A turn of the agent at this place, and the work that it leaves: whether it made an entry.
-fn try_agent(
+pub fn try_agent(
     alloc: Global,
     script: &Script,
     parts: &mut Parts,

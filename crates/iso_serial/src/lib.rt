@@ -2,9 +2,11 @@
 #![tactic(auto)]
 
 mod agents;
+mod drawing;
 mod laws;
 mod run;
 mod turns;
+mod words;
 
-pub use laws::one_history_is_scheduled;
+pub use laws::{one_history_is_scheduled, one_history_is_seeded};
 pub use run::run_serial;

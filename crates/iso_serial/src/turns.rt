@@ -16,7 +16,7 @@ use iso_state::Parts;
 use std::alloc::Global;
 
 /// A turn of the dispatcher: whether it made an entry.
-fn try_director(script: &Script, parts: &mut Parts, director: &mut Director) -> bool
+pub fn try_director(script: &Script, parts: &mut Parts, director: &mut Director) -> bool
     requires stands { StandsFor parts.old }
     requires head { parts.old.head ≡ script.now.head }
     requires sound { IsSound script.now }

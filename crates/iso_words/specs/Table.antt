@@ -93,7 +93,7 @@ is_count m = nat_le 1 m && nat_le m 10000
 
 -- the job that the parts make
 abbrev pub job_by : Option Task → Option ℕ → Option ℕ → Bool → Option Job
-job_by (Some Task.Serial) None None trace = Some (Job.Serial trace)
+job_by (Some Task.Serial) seed None trace = Some (Job.Serial seed trace)
 job_by (Some Task.Check) None None false = Some Job.Check
 job_by (Some Task.Generate) (Some n) (Some m) false = if is_count m then Some (Job.Generate n m) else None
 job_by (Some Task.Mix) (Some n) (Some m) false = if is_count m then Some (Job.Mix n m) else None
@@ -109,7 +109,7 @@ is_over Awaits.Count = false
 abbrev pub finished : Parts → Option Job
 finished p = if p.bad then None else if is_over p.awaits then job_by p.task p.seed p.count p.trace else None
 
--- The job that the words name, if they are a row of the table: `serial [--trace]`, `check`, `generate --seed N --count M`,
--- `mix --seed N --count M`, the options in any order, each at most once, a value in the next word or behind `=`.
+-- The job that the words name, if they are a row of the table: `serial [--seed N] [--trace]`, `check`, `generate --seed N
+-- --count M`, `mix --seed N --count M`, the options in any order, each at most once, a value in the next word or behind `=`.
 abbrev pub job_of : List (List ℕ) → Option Job
 job_of words = finished (parts_from none_yet words)

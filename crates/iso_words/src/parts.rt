@@ -5,8 +5,9 @@ ghost use Rattle.iso_words.specs.Table.{begins, finished, is_count, is_over, is_
 /// What a run of the program is to do.
 #[derive(Clone, Copy, PartialEq, Eq)]
 pub enum Job {
-    /// Reads a script, runs it on this thread, and writes its transcript, with its trace behind it where `trace`.
-    Serial { trace: bool },
+    /// Reads a script, runs it on this thread, by the seed where there is one, and writes its transcript, with its trace behind it
+    /// where `trace`.
+    Serial { seed: Option<u64>, trace: bool },
     /// Reads a script, and writes how many lines it has.
     Check,
     /// Writes the script that a seed makes.
@@ -226,7 +227,7 @@ fn job_by(task: Option<Task>, seed: Option<u64>, count: Option<u64>, trace: bool
     ensures { result ≡ job_by task seed count trace }
 {
     match (task, seed, count, trace) {
-        (Some(Task::Serial), None, None, _) => Some(Job::Serial { trace }),
+        (Some(Task::Serial), _, None, _) => Some(Job::Serial { seed, trace }),
         (Some(Task::Check), None, None, false) => Some(Job::Check),
         (Some(Task::Generate), Some(seed), Some(count), false) if is_count(count) => {
             Some(Job::Generate {

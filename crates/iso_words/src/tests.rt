@@ -2,10 +2,36 @@ use super::*;
 use std::test::Fail;
 
 // The words and the job that they name.
-const TABLE: [(&[&str], Option<Job>); 14] = [
-    (&["serial"], Some(Job::Serial { trace: false })),
-    (&["serial", "--trace"], Some(Job::Serial { trace: true })),
-    (&["--trace", "serial"], Some(Job::Serial { trace: true })),
+const TABLE: [(&[&str], Option<Job>); 16] = [
+    (
+        &["serial"],
+        Some(Job::Serial {
+            seed: None,
+            trace: false,
+        }),
+    ),
+    (
+        &["serial", "--trace"],
+        Some(Job::Serial {
+            seed: None,
+            trace: true,
+        }),
+    ),
+    (
+        &["--trace", "serial"],
+        Some(Job::Serial {
+            seed: None,
+            trace: true,
+        }),
+    ),
+    (
+        &["--seed=0", "serial", "--trace"],
+        Some(Job::Serial {
+            seed: Some(0),
+            trace: true,
+        }),
+    ),
+    (&["serial", "--seed", "1", "--count", "1"], None),
     (&["check"], Some(Job::Check)),
     (
         &["generate", "--seed", "7", "--count=10000"],
