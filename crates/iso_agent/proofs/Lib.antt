@@ -22,3 +22,4 @@ pub mod Dues
 pub mod NextStepping
 pub mod Entering
 pub mod Rising
+pub mod PinKept

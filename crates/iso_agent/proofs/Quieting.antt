@@ -16,6 +16,7 @@ use Rattle.iso_history.specs.Legal.{Runs}
 use Rattle.iso_history.specs.Marks.{mark_of}
 use Rattle.iso_history.specs.Phases.{phase}
 use Rattle.iso_history.specs.World.{World}
+use Rattle.iso_history.specs.declared.entry.Want.{Want}
 use Rattle.iso_script.specs.declared.script.Line.{Line}
 use Rattle.iso_sql.specs.declared.statement.Statement.{Statement}
 use Rattle.iso_state.specs.Stands.{IsDeskOf}
@@ -24,6 +25,8 @@ use Rattle.iso_types.specs.declared.desk.Phase.{Phase}
 use Rattle.iso_types.specs.declared.desk.Phase.TheVariants.{Rolling, Running}
 use Rattle.iso_types.specs.declared.head.Head.{Head}
 use Rattle.iso_types.specs.declared.value.Conn.{Conn}
+use Rattle.iso_types.specs.declared.value.Rid.{Rid}
+use Rattle.iso_types.specs.declared.value.TableId.{TableId}
 
 pub quiet-answers : (w : World) (c : Conn) (m : Move) (t : Told) → quiet w c m ≡ Some t → answers m t ≡ true
 quiet-answers w c Move.Claim t e = ended (phase w c) (w.doom c) e
@@ -47,6 +50,12 @@ quiet-answers w c _ t e = absurd (cc)
 
 abbrev told_by : Point → Option Told → Point
 told_by p o = elim o [ None ↦ p | Some t ↦ told_point p t ]
+
+-- a look is answered by no more than its entry
+pub look_quiet : (w : World) (c : Conn) (p : Point) (t : TableId) (r : Rid) (want : Want) → due p ≡ Move.Look t r want → p ≡ quieted w c (quieted w c p)
+look_quiet w c p t r want e =
+    let once : quieted w c p ≡ p = ap (told_by p) (ap (quiet w c) e) in
+    sym (ap (quieted w c) once ∙ once)
 
 -- where the first point is one whose step may be made
 pub back-runs : (head : Head) (w : World) (c : Conn) (p : Point) → MayGoOn head w c (quieted w c (quieted w c p)) → RunsForBack w c (due p)

@@ -1,5 +1,5 @@
 -- What comes of the step that is due, and what is kept of its entry.
-use Rattle.std.specs.Prelude.{◌≡◌, Bool, true, false, List, [], ◌∷◌, ◌++◌, IsTrue, Some, None, if◌then◌else◌}
+use Rattle.std.specs.Prelude.{◌≡◌, Bool, true, false, ◌&&◌, List, [], ◌∷◌, ◌++◌, IsTrue, Option, Some, None, if◌then◌else◌, nat_lt}
 use Rattle.iso_agent.specs.Fits.{Tells}
 use Rattle.iso_agent.specs.declared.agent.Kept.{Kept}
 use Rattle.iso_agent.specs.declared.agent.Kept.TheVariants.{Answer, Rebuild}
@@ -8,17 +8,24 @@ use Rattle.iso_agent.specs.declared.stepped.Stepped.TheVariants.{Goes, Over, Sto
 use Rattle.iso_conduct.specs.Conduct.{ends, heard}
 use Rattle.iso_conduct.specs.Outcomes.{act_of}
 use Rattle.iso_conduct.specs.Points.{Point, due, row_due, rows_due}
+use Rattle.iso_conduct.specs.declared.moves.Move.{Move}
 use Rattle.iso_conduct.specs.declared.moves.Told.{Told}
 use Rattle.iso_history.specs.After.{world}
+use Rattle.iso_history.specs.Looks.{look}
 use Rattle.iso_history.specs.Makers.{by_agent}
+use Rattle.iso_history.specs.Requests.{Outcome}
+use Rattle.iso_history.specs.Requests.Outcome.{Gives}
 use Rattle.iso_history.specs.Stops.{is_full, may_stop}
+use Rattle.iso_history.specs.Versions.{slots}
 use Rattle.iso_history.specs.World.{World}
 use Rattle.iso_history.specs.declared.entry.Act.{Act}
 use Rattle.iso_history.specs.declared.entry.Act.TheVariants.{Stopped}
 use Rattle.iso_history.specs.declared.entry.Cause.{Cause}
 use Rattle.iso_history.specs.declared.entry.Cause.TheVariants.{History, Memory}
 use Rattle.iso_history.specs.declared.entry.Entry.{Entry}
+use Rattle.iso_history.specs.declared.entry.Got.{Got}
 use Rattle.iso_locks.specs.declared.locking.Answer.{Answer as LockAnswer}
+use Rattle.iso_reads.specs.Answers.{is_beside}
 use Rattle.iso_reads.specs.declared.outcomes.Looked.{Looked}
 use Rattle.iso_reads.specs.declared.stepping.Stepped.{Stepped as NextStepped}
 use Rattle.iso_rebuild.specs.Chains.{HasChain}
@@ -106,3 +113,32 @@ goes_on _ = false
 -- the entry of the step that is due
 abbrev pub act_due : Head → World → Conn → Point → Act
 act_due head w c p = act_of head w c (row_due p) (rows_due p) (due p)
+
+-- ---- a pinned look
+
+-- the outcome is a grant
+abbrev pub is_granted : Outcome → Bool
+is_granted (Gives Got.Granted) = true
+is_granted _ = false
+
+-- the step that is due pins a slot: it is a look, it is granted, and another unit has changed the row
+abbrev pub pins : Head → World → Conn → Move → Bool
+pins head w c (Move.Look t r want) = nat_lt r.0 (slots w t) && (is_granted (look head w c t r want) && is_beside w c t r want)
+pins head w c m = false
+
+-- what is kept is the pin of a slot: its records, of which no row is made yet
+abbrev pub is_pin : Kept → Bool
+is_pin (Rebuild past) = true
+is_pin kept = false
+
+-- a pin is kept, or nothing was appended
+abbrev pub keeps_pin : Stepped → Bool
+keeps_pin (Goes kept) = is_pin kept
+keeps_pin Over = false
+keeps_pin (Stops cause) = true
+
+-- what an entry leaves of the task whose step was due: none, where the statement is over or was stopped; or that task, told nothing
+-- of the entry, and the pin where the entry was a pinned look
+abbrev pub IsUntold : Head → World → Conn → Option Point → Option Point → Kept → Type 0
+IsUntold head w c o None kept = Unit {0}
+IsUntold head w c o (Some p) kept = (o ≡ Some p) × (pins head w c (due p) ≡ true → is_pin kept ≡ true)

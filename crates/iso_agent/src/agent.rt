@@ -12,6 +12,7 @@ ghost use Rattle.iso_standing.specs.Going.{GoesOn};
 ghost use Rattle.iso_state.specs.Stands.{StandsFor, world_of};
 ghost use Rattle.iso_types.specs.declared.desk.Phase.{Phase as PhaseOf};
 ghost use Rattle.iso_agent.specs.Fits.{CanSettle, CanTellTo, Fits, HasSettled, HasTold, IsRested, is_settled, told_list};
+ghost use Rattle.iso_agent.specs.Steps.{IsUntold};
 ghost use Rattle.iso_agent.specs.Turns.{HasTurned, Leaves, is_over, is_ran};
 ghost use Rattle.iso_agent.specs.declared.agent.Kept.TheVariants.{Nothing};
 ghost use Rattle.iso_agent.specs.declared.agent.Turned.TheVariants as turns;
@@ -84,6 +85,7 @@ impl Agent {
         ensures conn { self.new.conn ≡ self.old.conn }
         ensures turned { HasTurned parts.old.history.items parts.new.history.items self.old.conn turns.Ran }
         ensures leaves { Leaves parts.old.head script.now.lines parts.new.history.items self.old.conn self.new.task self.new.kept }
+        ensures untold { IsUntold parts.old.head (world_of parts.old) self.old.conn (ready parts.old.head script.now.lines (world_of parts.old) self.old.conn (point parts.old.head script.now.lines parts.old.history.items self.old.conn)) self.new.task self.new.kept }
     {
         make_closing(parts, self.conn);
         self.task = None;
@@ -103,6 +105,7 @@ impl Agent {
         ensures conn { self.new.conn ≡ self.old.conn }
         ensures turned { HasTurned parts.old.history.items parts.new.history.items self.old.conn turns.Ran }
         ensures leaves { Leaves parts.old.head script.now.lines parts.new.history.items self.old.conn self.new.task self.new.kept }
+        ensures untold { IsUntold parts.old.head (world_of parts.old) self.old.conn (ready parts.old.head script.now.lines (world_of parts.old) self.old.conn (point parts.old.head script.now.lines parts.old.history.items self.old.conn)) self.new.task self.new.kept }
     {
         stopped(parts, Who::Agent(self.conn), cause);
         self.task = None;
@@ -125,6 +128,7 @@ impl Agent {
         ensures conn { self.new.conn ≡ self.old.conn }
         ensures turned { HasTurned parts.old.history.items parts.new.history.items self.old.conn turns.Ran }
         ensures leaves { Leaves parts.old.head script.now.lines parts.new.history.items self.old.conn self.new.task self.new.kept }
+        ensures untold { IsUntold parts.old.head (world_of parts.old) self.old.conn (ready parts.old.head script.now.lines (world_of parts.old) self.old.conn (point parts.old.head script.now.lines parts.old.history.items self.old.conn)) self.new.task self.new.kept }
     {
         let mut task = task;
         match step_due(alloc, parts, self.conn, &mut task) {
@@ -155,6 +159,7 @@ impl Agent {
         ensures conn { self.new.conn ≡ self.old.conn }
         ensures turned { HasTurned parts.old.history.items parts.new.history.items self.old.conn turns.Ran }
         ensures leaves { Leaves parts.old.head script.now.lines parts.new.history.items self.old.conn self.new.task self.new.kept }
+        ensures untold { IsUntold parts.old.head (world_of parts.old) self.old.conn (ready parts.old.head script.now.lines (world_of parts.old) self.old.conn (point parts.old.head script.now.lines parts.old.history.items self.old.conn)) self.new.task self.new.kept }
     {
         let task = self.task.take();
         match ready_task(alloc, script, parts, self.conn, task) {
@@ -177,6 +182,7 @@ impl Agent {
         ensures conn { self.new.conn ≡ self.old.conn }
         ensures turned { HasTurned parts.old.history.items parts.new.history.items self.old.conn turns.Ran }
         ensures leaves { Leaves parts.old.head script.now.lines parts.new.history.items self.old.conn self.new.task self.new.kept }
+        ensures untold { IsUntold parts.old.head (world_of parts.old) self.old.conn (ready parts.old.head script.now.lines (world_of parts.old) self.old.conn (point parts.old.head script.now.lines parts.old.history.items self.old.conn)) self.new.task self.new.kept }
     {
         match self.kept {
             Kept::Nothing => self.go(alloc, script, parts),
@@ -205,6 +211,7 @@ impl Agent {
         ensures conduct { Conduct parts.new.head script.now.lines parts.new.history.items self.old.conn }
         ensures fits { Fits parts.new.head script.now.lines parts.new.history.items self.old.conn self.new.task self.new.kept }
         ensures settle { CanSettle self.new.task self.new.kept }
+        ensures untold { is_ran result ≡ true → IsUntold parts.old.head (world_of parts.old) self.old.conn (ready parts.old.head script.now.lines (world_of parts.old) self.old.conn (point parts.old.head script.now.lines parts.old.history.items self.old.conn)) self.new.task self.new.kept }
     {
         match find_way(parts, self.conn) {
             Way::Rest => Turned::Rests,

@@ -5,7 +5,7 @@ ghost use Rattle.iso_conduct.specs.Points.{due};
 ghost use Rattle.iso_conduct.specs.Standing.{MayGoOn};
 ghost use Rattle.iso_state.specs.Stands.{StandsFor, world_of};
 ghost use Rattle.iso_agent.specs.Scans.{ScansWithin};
-ghost use Rattle.iso_agent.specs.Steps.{HasStepped, act_due, goes_on};
+ghost use Rattle.iso_agent.specs.Steps.{HasStepped, act_due, goes_on, keeps_pin, pins};
 
 use crate::ends::{
     make_back, make_commit, make_mark, make_reply, make_rollback, make_set, make_undo,
@@ -19,9 +19,8 @@ use iso_state::Parts;
 use iso_types::Conn;
 use std::alloc::Global;
 
-/// Makes the entry of the step that is due, which may be made and is not answered without an entry. The task is told nothing;
-/// only a reply takes its rows.
-pub fn step_due(alloc: Global, parts: &mut Parts, conn: Conn, task: &mut Task) -> Stepped
+/// Makes the entry of the step that is due, whichever it is.
+fn step_any(alloc: Global, parts: &mut Parts, conn: Conn, task: &mut Task) -> Stepped
     requires stands { StandsFor parts.old }
     requires open { (world_of parts.old).pace.finished ≡ false }
     requires conn { conn.0 < length parts.old.head.conns }
@@ -32,6 +31,7 @@ pub fn step_due(alloc: Global, parts: &mut Parts, conn: Conn, task: &mut Task) -
     ensures head { parts.new.head ≡ parts.old.head }
     ensures stepped { HasStepped parts.old.head parts.old.history.items parts.new.history.items conn (act_due parts.old.head (world_of parts.old) conn task.old) result }
     ensures same { goes_on result ≡ true → task.new ≡ task.old }
+    ensures pinned { pins parts.old.head (world_of parts.old) conn (due task.old) ≡ true → keeps_pin result ≡ true }
 {
     match task.next() {
         Move::Lock { name, mode } => make_lock(parts, conn, name, mode),
@@ -59,5 +59,26 @@ pub fn step_due(alloc: Global, parts: &mut Parts, conn: Conn, task: &mut Task) -
             let rows = task.take_rows(alloc);
             make_reply(parts, conn, code, changed, rows)
         }
+    }
+}
+
+/// Makes the entry of the step that is due, which may be made and is not answered without an entry. The task is told nothing;
+/// only a reply takes its rows. A look is asked for first, since most entries of a scan are looks.
+pub fn step_due(alloc: Global, parts: &mut Parts, conn: Conn, task: &mut Task) -> Stepped
+    requires stands { StandsFor parts.old }
+    requires open { (world_of parts.old).pace.finished ≡ false }
+    requires conn { conn.0 < length parts.old.head.conns }
+    requires may { MayGoOn parts.old.head (world_of parts.old) conn task.old }
+    requires loud { quiet (world_of parts.old) conn (due task.old) ≡ None }
+    requires scans { ScansWithin parts.old.head (world_of parts.old) task.old }
+    ensures stands { StandsFor parts.new }
+    ensures head { parts.new.head ≡ parts.old.head }
+    ensures stepped { HasStepped parts.old.head parts.old.history.items parts.new.history.items conn (act_due parts.old.head (world_of parts.old) conn task.old) result }
+    ensures same { goes_on result ≡ true → task.new ≡ task.old }
+    ensures pinned { pins parts.old.head (world_of parts.old) conn (due task.old) ≡ true → keeps_pin result ≡ true }
+{
+    match task.due_look() {
+        Some(look) => make_look(alloc, parts, conn, look.table, look.rid, look.want),
+        None => step_any(alloc, parts, conn, task),
     }
 }

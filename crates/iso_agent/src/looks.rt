@@ -1,5 +1,5 @@
 //! The steps of looks and of index scans, as an agent makes them.
-ghost use Rattle.std.specs.Prelude.{◌≡◌, ◌≤◌, ◌<◌, length, false, IsTrue};
+ghost use Rattle.std.specs.Prelude.{◌≡◌, ◌≤◌, ◌<◌, length, false, true, IsTrue};
 ghost use Rattle.iso_history.specs.Legal.{Runs};
 ghost use Rattle.iso_history.specs.Looks.{may_look};
 ghost use Rattle.iso_history.specs.Nexts.{may_next};
@@ -8,7 +8,8 @@ ghost use Rattle.iso_history.specs.Versions.{slots};
 ghost use Rattle.iso_state.specs.Stands.{StandsFor, world_of};
 ghost use Rattle.iso_types.specs.Head.{is_table};
 ghost use Rattle.iso_reads.specs.Nexts.{next_act};
-ghost use Rattle.iso_agent.specs.Steps.{HasStepped, kept_of_look, kept_of_next};
+ghost use Rattle.iso_agent.specs.Steps.{HasStepped, keeps_pin, kept_of_look, kept_of_next, pins};
+ghost use Rattle.iso_conduct.specs.declared.moves.Move.TheVariants as Moves;
 
 use crate::agent::Kept;
 use crate::stepped::{Stepped, cause_of, keep, keep_escalation, waits};
@@ -53,6 +54,7 @@ pub fn make_look(
     ensures stands { StandsFor parts.new }
     ensures head { parts.new.head ≡ parts.old.head }
     ensures stepped { HasStepped parts.old.head parts.old.history.items parts.new.history.items conn (look_act parts.old.head (world_of parts.old) conn table rid want) result }
+    ensures pinned { pins parts.old.head (world_of parts.old) conn (Moves.Look table rid want) ≡ true → keeps_pin result ≡ true }
 {
     match look(alloc, parts, conn, table, rid, want) {
         Ok(looked) => {

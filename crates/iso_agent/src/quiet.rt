@@ -117,8 +117,8 @@ fn quieten_once(alloc: Global, parts: &Parts, conn: Conn, task: &mut Task) -> bo
     }
 }
 
-/// Tells the task what its step answers that records nothing, if it does; and then the same of the step that is due then.
-pub fn quieten(alloc: Global, parts: &Parts, conn: Conn, task: &mut Task)
+/// Tells the task what its step answers that records nothing, and then the same of the step that is due then.
+fn quieten_steps(alloc: Global, parts: &Parts, conn: Conn, task: &mut Task)
     requires stands { StandsFor parts.now }
     requires conn { conn.0 < length parts.now.head.conns }
     requires runs { RunsForBack (world_of parts.now) conn (due task.old) }
@@ -127,5 +127,21 @@ pub fn quieten(alloc: Global, parts: &Parts, conn: Conn, task: &mut Task)
 {
     if quieten_once(alloc, parts, conn, task) {
         quieten_once(alloc, parts, conn, task);
+    }
+}
+
+/// Tells the task what its step answers that records nothing, if it does; and then the same of the step that is due then. A look
+/// is never answered so.
+#[tactic(auto, using(crate::proofs::Quieting::look_quiet))]
+pub fn quieten(alloc: Global, parts: &Parts, conn: Conn, task: &mut Task)
+    requires stands { StandsFor parts.now }
+    requires conn { conn.0 < length parts.now.head.conns }
+    requires runs { RunsForBack (world_of parts.now) conn (due task.old) }
+    requires later { RunsForBack (world_of parts.now) conn (due (quieted (world_of parts.now) conn task.old)) }
+    ensures { task.new ≡ quieted (world_of parts.now) conn (quieted (world_of parts.now) conn task.old) }
+{
+    match task.due_look() {
+        Some(_) => {}
+        None => quieten_steps(alloc, parts, conn, task),
     }
 }

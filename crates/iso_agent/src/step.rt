@@ -1,8 +1,9 @@
 //! A step of an agent on the whole state, as a hold of the latch makes it.
-ghost use Rattle.std.specs.Prelude.{◌≡◌, ◌<◌, length};
+ghost use Rattle.std.specs.Prelude.{◌≡◌, ◌<◌, length, true};
 ghost use Rattle.iso_agent.specs.Fits.{CanSettle, Fits, IsRested};
+ghost use Rattle.iso_agent.specs.Steps.{IsUntold};
 ghost use Rattle.iso_agent.specs.Turns.{HasTurned, is_over, is_ran};
-ghost use Rattle.iso_conduct.specs.Conduct.{Conduct};
+ghost use Rattle.iso_conduct.specs.Conduct.{Conduct, point, ready};
 ghost use Rattle.iso_history.specs.After.{world};
 ghost use Rattle.iso_history.specs.Quiet.{is_able};
 ghost use Rattle.iso_script.specs.Sound.{IsSound};
@@ -28,6 +29,7 @@ impl Agent {
         ensures conduct { Conduct result.0.head script.now.lines result.0.history self.old.conn }
         ensures fits { Fits result.0.head script.now.lines result.0.history self.old.conn self.new.task self.new.kept }
         ensures settle { CanSettle self.new.task self.new.kept }
+        ensures untold { is_ran result.1 ≡ true → IsUntold state.head (world state.head state.history) self.old.conn (ready state.head script.now.lines (world state.head state.history) self.old.conn (point state.head script.now.lines state.history self.old.conn)) self.new.task self.new.kept }
     {
         let mut parts = state.into_parts();
         let turned = self.make(alloc, script, &mut parts);

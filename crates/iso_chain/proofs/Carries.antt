@@ -4,6 +4,7 @@ use Rattle.std.proofs.lemmas.List.{append_assoc, map-append}
 use Rattle.std.specs.Prelude.{map}
 use Rattle.iso_history.specs.Versions.{change_of}
 use Rattle.iso_history.specs.Versions.Change.{Keeps}
+use Rattle.iso_history.specs.declared.entry.Act.{Act}
 use Rattle.iso_history.specs.declared.entry.Entry.{Entry}
 use Rattle.iso_record.specs.declared.record.Record.{Record}
 use Rattle.iso_types.specs.declared.value.Value.{Value}
@@ -24,3 +25,19 @@ carries-more log es x e is row =
 pub carries-same : (log : List Record) (es : List Entry) (e : Entry) → CarriesRows log es → [] ≡ rows_by (change_of e.act)
     → CarriesRows log (es ++ e ∷ [])
 carries-same log es e is none = is ∙ sym (append-nil (rows_made es)) ∙ ap (λ l. rows_made es ++ l) none ∙ sym (rows-more es e)
+
+-- the new log carries what the old one does, and then what this act adds
+abbrev pub RowsMore : List Record → List Record → Act → Type 0
+RowsMore old new a = map (λ (n : Record). n.after) new ≡ map (λ (n : Record). n.after) old ++ rows_by (change_of a)
+
+-- then it carries the rows of the history with its entry
+pub carried-more : (old new : List Record) (es : List Entry) (e : Entry) → CarriesRows old es → RowsMore old new e.act → CarriesRows new (es ++ e ∷ [])
+carried-more old new es e is more = more ∙ ap (λ l. l ++ rows_by (change_of e.act)) is ∙ sym (rows-more es e)
+
+-- an act without a record
+pub no-row : (log : List Record) (a : Act) → rows_by (change_of a) ≡ [] → RowsMore log log a
+no-row log a none = sym (append-nil (map (λ (n : Record). n.after) log)) ∙ ap (λ l. map (λ (n : Record). n.after) log ++ l) (sym none)
+
+-- an act with one
+pub one-row : (log : List Record) (x : Record) (a : Act) → x.after ∷ [] ≡ rows_by (change_of a) → RowsMore log (log ++ x ∷ []) a
+one-row log x a row = map-append (λ (n : Record). n.after) log (x ∷ []) ∙ ap (λ l. map (λ (n : Record). n.after) log ++ l) row

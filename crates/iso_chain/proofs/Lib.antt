@@ -16,4 +16,4 @@ pub mod Units
 pub mod Firsts
 pub mod Rooms
 pub mod Kept
-mod Carries
+pub mod Carries

@@ -1,6 +1,6 @@
 //! The inside of a task: a statement, how far it is, and what each answer makes of it.
 
-ghost use Rattle.std.specs.Prelude.{◌≡◌, ◌<◌, ◌^◌, ◌++◌, ◌∷◌, [], drop, ◌≢◌, ◌&&◌, true, false, ◌+◌, Some, length, OnOk, OnErr, IfOk, List, if◌then◌else◌, map, nat_lt};
+ghost use Rattle.std.specs.Prelude.{◌≡◌, ◌<◌, ◌^◌, ◌++◌, ◌∷◌, [], drop, ◌≢◌, ◌&&◌, true, false, ◌+◌, Some, length, OnOk, OnErr, IfOk, IfSome, List, if◌then◌else◌, map, nat_lt};
 ghost use Rattle.std.specs.List.{list_all};
 ghost use Rattle.iso_types.specs.Value.{value_eq};
 ghost use Rattle.iso_predicate.specs.Truth.{is_within, value_at};
@@ -18,7 +18,7 @@ ghost use Rattle.iso_conduct.specs.declared.course.Stage.{Stage};
 ghost use Rattle.iso_conduct.specs.declared.course.Front.{Front};
 ghost use Rattle.iso_conduct.specs.declared.moves.Move.{Move};
 
-use crate::moves::{Move, Told};
+use crate::moves::{DueLook, Move, Told};
 use iso_history::Want;
 use iso_modes::Mode;
 use iso_predicate::{AssignFault, assign, keep};
@@ -236,6 +236,46 @@ impl Course {
             },
             Stage::Settles => Move::Commit,
             _ => self.reply_due(),
+        }
+    }
+
+    /// The look of the scan, where it stands at a row.
+    fn scan_look(&self) -> Option<DueLook>
+        ensures { IfSome result (λ look. point.due_by (point_of self.now).kept (part_of self.now.walk self.now.place ∷ []) ≡ Move.Look look.table look.rid look.want) }
+    {
+        let walk = &self.walk;
+        match &self.place {
+            Place::Slot(rid) => Some(DueLook {
+                table: walk.table,
+                rid: Rid(*rid),
+                want: walk.want,
+            }),
+            Place::Entry(_, rid) => Some(DueLook {
+                table: walk.table,
+                rid: *rid,
+                want: walk.want,
+            }),
+            Place::Behind(_) => None,
+        }
+    }
+
+    /// The look of the stage, if its step is one.
+    fn stage_look(&self) -> Option<DueLook>
+        ensures { IfSome result (λ look. point.due_by (point_of self.now).kept (staged self.now) ≡ Move.Look look.table look.rid look.want) }
+    {
+        match &self.stage {
+            Stage::Scan => self.scan_look(),
+            _ => None,
+        }
+    }
+
+    /// The look that is due, if the due step is one.
+    pub fn due_look(&self) -> Option<DueLook>
+        ensures { IfSome result (λ look. due (point_of self.now) ≡ Move.Look look.table look.rid look.want) }
+    {
+        match self.front {
+            Front::Nothing => self.stage_look(),
+            _ => None,
         }
     }
 

@@ -68,6 +68,14 @@ pub enum Move {
     },
 }
 
+/// A look that is due, with its arguments: the step of most entries of a scan, without the room that a `Move` has for others.
+#[derive(Clone, Copy)]
+pub struct DueLook {
+    pub table: TableId,
+    pub rid: Rid,
+    pub want: Want,
+}
+
 /// What that step answered, with a look's row already rebuilt. `Granted` and `Ended` answer a Claim, `Undone` an
 /// Undo, `Floor` a Back; the truth value of `Shown` says whether the connection has a Fresh hold on the look's row.
 #[derive(Drop)]

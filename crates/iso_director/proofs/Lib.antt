@@ -5,5 +5,6 @@ pub mod Endings
 pub mod Tries
 pub mod Halts
 pub mod Leads
-pub mod FreshAlong
 pub mod Ables
+pub mod Edges
+pub mod UntiedAlong

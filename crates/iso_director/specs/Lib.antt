@@ -1,3 +1,3 @@
 pub mod Director
 pub mod Turns
-pub mod Freshness
+pub mod Untied

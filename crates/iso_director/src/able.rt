@@ -4,7 +4,7 @@ ghost use Rattle.std.specs.Prelude.{◌≡◌, ◌<◌, ℕ, not, ◌&&◌, drop
 ghost use Rattle.iso_conduct.specs.Pacing.{IsLine, line_step, step_of, taking};
 ghost use Rattle.iso_conduct.specs.Schedule.{dispatcher_step};
 ghost use Rattle.iso_director.specs.Director.{HasTaken};
-ghost use Rattle.iso_director.specs.Freshness.{WasFresh};
+ghost use Rattle.iso_ends.specs.Doubts.{AreKept};
 ghost use Rattle.iso_history.specs.Entries.{least_purgeable};
 ghost use Rattle.iso_history.specs.Outcomes.{statement_step};
 ghost use Rattle.iso_history.specs.Phases.{is_phase, phase};
@@ -15,7 +15,7 @@ ghost use Rattle.iso_types.specs.declared.desk.Phase.TheVariants as Phases;
 
 use crate::director::Director;
 use iso_ends::purgeable;
-use iso_pace::{cyclic, quiet};
+use iso_pace::quiet;
 use iso_script::{Line, Script, What};
 use iso_state::{Parts, can_claim, desk_of};
 use iso_types::{Conn, Phase};
@@ -124,18 +124,16 @@ impl Director {
     /// Whether a pair is purged before a line is taken.
     fn can_purge(&mut self, parts: &Parts) -> bool
         requires stands { StandsFor parts.now }
-        requires fresh { WasFresh parts.now.head parts.now.history.items self.old.fresh }
-        ensures fresh { WasFresh parts.now.head parts.now.history.items self.new.fresh }
+        requires kept { AreKept parts.now.head parts.now.history.items self.old.doubts }
+        ensures kept { AreKept parts.now.head parts.now.history.items self.new.doubts }
         ensures taken { self.new.taken ≡ self.old.taken }
+        ensures acyclic { self.new.acyclic ≡ self.old.acyclic }
         ensures purges { result ≡ (not (world_of parts.now).pace.purged && is_some (least_purgeable parts.now.head (world_of parts.now))) }
     {
         if parts.pace.purged {
             return false;
         }
-        if self.is_fresh(parts) {
-            return false;
-        }
-        purgeable(parts)
+        purgeable(parts, &mut self.doubts)
     }
 
     /// Whether the next line can be taken, or a pair purged before it.
@@ -146,9 +144,10 @@ impl Director {
         requires going { (world_of parts.now).pace.stopped ≡ false }
         requires acyclic { cycle_in parts.now.head (world_of parts.now) ≡ None }
         requires left { self.old.taken < length script.now.lines }
-        requires fresh { WasFresh parts.now.head parts.now.history.items self.old.fresh }
-        ensures fresh { WasFresh parts.now.head parts.now.history.items self.new.fresh }
+        requires kept { AreKept parts.now.head parts.now.history.items self.old.doubts }
+        ensures kept { AreKept parts.now.head parts.now.history.items self.new.doubts }
         ensures taken { self.new.taken ≡ self.old.taken }
+        ensures acyclic { self.new.acyclic ≡ self.old.acyclic }
         ensures takes { result ≡ is_some (taking parts.now.head (world_of parts.now) (drop self.old.taken script.now.lines)) }
     {
         if self.can_purge(parts) {
@@ -158,8 +157,8 @@ impl Director {
     }
 
     /// Whether `make` would make an entry. Nothing is appended. It looks at the next line alone, and asks the state what `make`
-    /// asks: a circle is sought as by `cyclic`, quiet as by `quiet`; where it is not known that no pair of an index is stale, all
-    /// pairs are looked at, as by `has_stale`, and where one is, once more, as by `purgeable`. (This project's own.)
+    /// asks: a circle is sought, as by `cyclic`, only where an entry has queued since there was none, quiet as by `quiet`, and a
+    /// purgeable pair as by `purgeable`. (This project's own.)
     pub fn able(&mut self, script: &Script, parts: &Parts) -> bool
         requires stands { StandsFor parts.now }
         requires head { parts.now.head ≡ script.now.head }
@@ -171,7 +170,7 @@ impl Director {
         if parts.pace.finished {
             return false;
         }
-        if cyclic(parts) {
+        if self.is_cyclic(parts) {
             return true;
         }
         if parts.pace.stopped {

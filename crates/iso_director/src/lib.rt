@@ -3,7 +3,8 @@
 
 mod able;
 mod director;
-mod freshness;
 mod taking;
+mod untied;
 
 pub use director::{Director, Led};
+pub use untied::stays_acyclic;

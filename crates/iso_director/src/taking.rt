@@ -3,13 +3,13 @@
 ghost use Rattle.std.specs.Prelude.{◌≡◌, ◌≤◌, false, true, length, is_some, Some, None, OnErr};
 ghost use Rattle.iso_conduct.specs.Conduct.{statement_in};
 ghost use Rattle.iso_conduct.specs.Pacing.{IsLine, line_step};
-ghost use Rattle.iso_history.specs.Entries.{least_purgeable};
 ghost use Rattle.iso_director.specs.Turns.{HasLineTaken, HasTried, due_step, lacked};
+ghost use Rattle.iso_ends.specs.Doubts.{AreKept};
 ghost use Rattle.iso_pace.specs.Answers.{MayTakeLine, is_taken as is_done};
 ghost use Rattle.iso_script.specs.declared.script.What.TheVariants as Asks;
 ghost use Rattle.iso_state.specs.Stands.{StandsFor, content_of, world_of};
 
-use iso_ends::{purge, stopped};
+use iso_ends::{Doubts, purge, stopped};
 use iso_history::{Cause, Who};
 use iso_pace::{Paced, dispatch, expire, snapshot};
 use iso_script::{Line, What};
@@ -191,35 +191,25 @@ fn take_line(parts: &mut Parts, line: &Line) -> Taken
     }
 }
 
-/// Whether a line may be tried without a purge before it: nothing is purgeable, or the dispatcher's last entry is a purge.
-fn needs_no_purge(parts: &Parts, fresh: bool) -> bool
-    requires stands { StandsFor parts.now }
-    requires fresh { fresh ≡ true → least_purgeable parts.now.head (world_of parts.now) ≡ None }
-    ensures may { result ≡ true → MayTakeLine parts.now.head (world_of parts.now) }
-    ensures calm { result ≡ false → (world_of parts.now).pace.purged ≡ false }
-{
-    fresh || parts.pace.purged
-}
-
 /// Purges a pair, where one is purgeable and the dispatcher's last entry is no purge; else takes a line, where its step may be
-/// made. `fresh`: it is known that no pair is purgeable. Where there is want of memory or of room in the history the dispatcher
-/// stops in place of either. It looks at this line alone, at the pairs of the indexes as `purge` does where it is not known, and
-/// asks the lock list once for each connection at most.
-pub(crate) fn take(parts: &mut Parts, line: &Line, fresh: bool) -> Taken
+/// made. Where there is want of memory or of room in the history the dispatcher stops in place of either. It looks at this line
+/// alone, at the pairs of the indexes as `purge` does, and asks the lock list once for each connection at most.
+pub(crate) fn take(parts: &mut Parts, line: &Line, doubts: &mut Doubts) -> Taken
     requires stands { StandsFor parts.old }
     requires open { (world_of parts.old).pace.finished ≡ false }
     requires going { (world_of parts.old).pace.stopped ≡ false }
     requires line { IsLine parts.old.head line.now }
-    requires fresh { fresh ≡ true → least_purgeable parts.old.head (world_of parts.old) ≡ None }
+    requires kept { AreKept parts.old.head parts.old.history.items doubts.old }
     ensures stands { StandsFor parts.new }
     ensures head { parts.new.head ≡ parts.old.head }
+    ensures kept { AreKept parts.old.head parts.old.history.items doubts.new }
     ensures taken { HasLineTaken parts.old.head (world_of parts.old) (due_step parts.old.head (world_of parts.old) line.now)
         parts.old.history.items parts.new.history.items result }
 {
-    if needs_no_purge(parts, fresh) {
+    if parts.pace.purged {
         return take_line(parts, line);
     }
-    match purge(parts) {
+    match purge(parts, doubts) {
         Ok(true) => Taken::Pair,
         Ok(false) => take_line(parts, line),
         Err(fault) => {

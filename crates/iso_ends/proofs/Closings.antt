@@ -2,6 +2,7 @@
 use Rattle.std.proofs.Common.{◌≡◌, ◌≤◌, ◌<◌, ◌-◌, ◌⊎◌, inl, inr, ℕ, Bool, true, false, ◌&&◌, ◌||◌, List, length, refl, ap, sym, subst, ◌∙◌, arith, None, Option}
 use Rattle.std.specs.Prelude.{IfSome, ℤ, if◌then◌else◌, is_none, is_some, unwrap_or}
 use Rattle.std.proofs.Math.ListN.{length-set}
+use Rattle.iso_chain.proofs.Carries.{no-row}
 use Rattle.iso_chain.proofs.Units.{ended-chained, kept-chained, rollback-chained}
 use Rattle.iso_history.proofs.limits.Others.{at-same}
 use Rattle.iso_history.specs.After.{after, world}
@@ -127,6 +128,7 @@ module _ (p : Content) (c : Conn) (s : Stands p) (lt : c.0 < length p.head.conns
       (p.reserved - (if is_phase (phase (world p.head p.history) c) Running then 2 else 1))
   rollback-own code reason ends are covers = record {
     chain = rollback-chained p.head (world p.head p.history) p.chain c code reason s.parts.chain;
+    carried = no-row p.chain.log (Rollback code reason) refl;
     works = length-set p.chain.book.works c.0 None;
     entries = refl;
     locks = subst (λ (hs : List Hold). LocksAre hs (unqueued c (world p.head p.history).waits) l) (all_dropped c None (world p.head p.history).holds) are;
@@ -139,6 +141,7 @@ module _ (p : Content) (c : Conn) (s : Stands p) (lt : c.0 < length p.head.conns
       → IsOwn p c Act.Ended (without_unit p.chain c) l (record (desk_at p.desks c) { phase = Phase.Ended; claimed = false }) (p.reserved - 3)
   ended-own are covers = record {
     chain = ended-chained p.head (world p.head p.history) p.chain c s.parts.chain;
+    carried = no-row p.chain.log Act.Ended refl;
     works = length-set p.chain.book.works c.0 None;
     entries = refl;
     locks = subst (λ (hs : List Hold). LocksAre hs (unqueued c (world p.head p.history).waits) l) (all_dropped c None (world p.head p.history).holds) are;
@@ -153,6 +156,7 @@ module _ (p : Content) (c : Conn) (s : Stands p) (lt : c.0 < length p.head.conns
   stop-own cause may are covers = record {
     chain = kept-chained (world p.head p.history) (after p.head (world p.head p.history) (by_agent c (Stopped cause))) p.chain refl refl refl refl refl refl
         s.parts.chain;
+    carried = no-row p.chain.log (Stopped cause) refl;
     works = refl;
     entries = refl;
     locks = are;

@@ -2,6 +2,7 @@
 use Rattle.std.proofs.Common.{◌≡◌, ◌≤◌, ◌<◌, ◌+◌, ◌-◌, inr, ℕ, false, List, length, refl, sym, subst, arith, None, Option}
 use Rattle.std.specs.Prelude.{IfSome, slice_set}
 use Rattle.std.proofs.Math.ListN.{length-set}
+use Rattle.iso_chain.proofs.Carries.{no-row}
 use Rattle.iso_chain.specs.Writes.{committed}
 use Rattle.iso_history.proofs.limits.Others.{at-same}
 use Rattle.iso_history.specs.After.{after}
@@ -62,6 +63,7 @@ module _ (p q : Parts) (c : Conn) (s : StandsFor p) (free : (world_of p).pace.fi
       (record { made = inr refl; pushed = spends.history; logged = omega (arith, more); bare = refl })
       (record {
         chain = committed-stands (content_of p) c s.stands runs;
+        carried = no-row (content_of p).chain.log Commit refl;
         works = length-set (content_of p).chain.book.works c.0 None;
         entries = refl;
         locks = subst (λ (hs : List Hold). LocksAre hs (unqueued c (world_of p).waits) l) (all_dropped c None (world_of p).holds) are;

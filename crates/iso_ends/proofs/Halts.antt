@@ -1,5 +1,6 @@
 -- The parts after the dispatcher's Stopped.
 use Rattle.std.proofs.Common.{◌≡◌, ◌≤◌, ◌-◌, inr, true, false, refl, arith}
+use Rattle.iso_chain.proofs.Carries.{no-row}
 use Rattle.iso_chain.proofs.Units.{kept-chained}
 use Rattle.iso_history.specs.After.{after}
 use Rattle.iso_history.specs.Legal.{Allowed}
@@ -36,6 +37,7 @@ module _ (p q : Parts) (cause : Cause) (s : StandsFor p) (free : (world_of p).pa
       (record { made = inr refl; pushed = spends.history; logged = omega (arith, more); bare = refl })
       (record {
         chain = kept-chained (world_of p) (after p.head (world_of p) (by_dispatcher (Stopped cause))) (content_of p).chain refl refl refl refl refl refl s.parts.chain;
+        carried = no-row (content_of p).chain.log (Stopped cause) refl;
         works = refl;
         entries = refl;
         locks = s.parts.locks;

@@ -11,3 +11,9 @@ pub mod PurgeSteps
 pub mod StaleAfter
 pub mod StaleWalks
 pub mod PageWalks
+pub mod HeldAfter
+pub mod DoubtSets
+pub mod DoubtsAlong
+pub mod DoubtFinds
+pub mod FreshAlong
+pub mod DoubtsKept

@@ -3,6 +3,7 @@ use Rattle.std.proofs.Common.{◌≡◌, ◌<◌, ℕ, false, List, length, refl
 use Rattle.std.specs.Option.{option_map}
 use Rattle.std.specs.Prelude.{IsSome}
 use Rattle.std.proofs.Math.ListN.{length-set}
+use Rattle.iso_chain.proofs.Carries.{no-row}
 use Rattle.iso_chain.proofs.Asks.{has-unit}
 use Rattle.iso_chain.proofs.Units.{back-chained, floor-is, mark-chained}
 use Rattle.iso_chain.specs.Works.{work_of_unit}
@@ -47,6 +48,7 @@ module _ (p : Content) (c : Conn) (s : Stands p) (lt : c.0 < length p.head.conns
   mark-own name l limits are = record {
     chain = mark-chained p.head (world p.head p.history) p.chain c (unit_of (world p.head p.history) c) name s.parts.chain (work-there s c lt)
         (unit-of s c runs.0);
+    carried = no-row p.chain.log (Mark name) refl;
     works = length-set p.chain.book.works c.0 _;
     entries = refl;
     locks = are;
@@ -64,6 +66,7 @@ module _ (p : Content) (c : Conn) (s : Stands p) (lt : c.0 < length p.head.conns
   back-own name l limits are = record {
     chain = back-chained p.head (world p.head p.history) p.chain c (unit_of (world p.head p.history) c) name s.parts.chain (work-there s c lt)
         (unit-of s c runs.0);
+    carried = no-row p.chain.log (Back name) refl;
     works = length-set p.chain.book.works c.0 _;
     entries = refl;
     locks = are;

@@ -2,12 +2,15 @@
 use Rattle.std.proofs.Common.{◌≡◌, ◌<◌, ◌∙◌, inl, ℕ, true, false, not, List, [], ◌∷◌, length, map, refl, ap, sym, subst, arith, slice_get, slice_set, slice_index_or, Some, None}
 use Rattle.std.proofs.lemmas.List.{length-map}
 use Rattle.std.specs.Prelude.{zero, suc}
+use Rattle.iso_chain.proofs.Carries.{carried-more, no-row}
 use Rattle.iso_chain.proofs.Units.{kept-chained}
 use Rattle.iso_history.proofs.Snoc.{Ground-snoc, world-snoc}
 use Rattle.iso_history.proofs.limits.Totals.{totals-after}
 use Rattle.iso_history.proofs.phantoms.EntriesAfter.{purged}
 use Rattle.iso_history.specs.After.{after, world}
-use Rattle.iso_history.specs.Entries.{is_purgeable, least_purgeable, without_pair}
+use Rattle.iso_ends.proofs.PurgeWalks.{pairs-ordered}
+use Rattle.iso_history.specs.Entries.{entries_of, is_purgeable, least_purgeable, without_pair}
+use Rattle.iso_history.specs.Orders.{IsOrdered}
 use Rattle.iso_history.specs.Legal.{Allowed, ByDispatcher}
 use Rattle.iso_history.specs.Makers.{by_dispatcher}
 use Rattle.iso_history.specs.Stops.{is_full}
@@ -107,6 +110,7 @@ module _ (p : Content) (i : IndexId) (key : Value) (r : Rid) (s : Stands p) (fre
               (record { ended_same = refl; closing_same = refl; doom_same = refl; waiting_same = refl; line_same = refl; unit_same = refl }) refl (s.parts.desks d lt);
           reserved = omega (arith, sums, kept);
         });
+        carried = carried-more p.chain.log p.chain.log p.history e s.carried (no-row p.chain.log (Purge i key r) refl);
         conns = s.conns;
         works = s.works;
         limits = s.limits;
@@ -130,3 +134,12 @@ purge-place p q i key r s ready spends free going calm least wrote =
           (purge-allowed x i key r s.stands free going calm least ready.fits)
           (record { made = inl ready.spare; pushed = spends.history; logged = omega (arith, more); bare = refl });
     })
+
+-- ---- the pairs of an index as the parts keep them
+
+pub keys-are : (p : Parts) → StandsFor p → (i : IndexId) (x : List (List (Value × Rid))) → Some x ≡ slice_get p.indexes i.0
+    → entries x ≡ entries_of (world_of p) i
+keys-are p s i x e = sym (at-map p.indexes i.0 x (sym e)) ∙ ap (λ (es : List (List (Value × Rid))). slice_index_or es i.0 []) s.parts.entries
+
+pub keys-ordered : (p : Parts) → StandsFor p → (i : IndexId) (x : List (List (Value × Rid))) → Some x ≡ slice_get p.indexes i.0 → IsOrdered (entries x)
+keys-ordered p s i x e = pairs-ordered (content_of p) s.stands i (entries x) (keys-are p s i x e)

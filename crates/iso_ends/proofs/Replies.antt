@@ -1,6 +1,7 @@
 -- The parts after a Reply, and after a Set.
 use Rattle.std.proofs.Common.{◌≡◌, ◌<◌, ℕ, Bool, false, List, length, refl, ap, sym, subst, None, Option}
 use Rattle.std.specs.Prelude.{IfSome, ℤ}
+use Rattle.iso_chain.proofs.Carries.{no-row}
 use Rattle.iso_chain.proofs.Units.{kept-chained}
 use Rattle.iso_history.proofs.limits.Others.{at-same}
 use Rattle.iso_history.specs.After.{after, world}
@@ -56,6 +57,7 @@ module _ (p : Content) (c : Conn) (s : Stands p) (lt : c.0 < length p.head.conns
   reply-own code changed rows runs are = record {
     chain = kept-chained (world p.head p.history) (after p.head (world p.head p.history) (by_agent c (Reply code changed rows))) p.chain refl refl refl refl refl refl
         s.parts.chain;
+    carried = no-row p.chain.log (Reply code changed rows) refl;
     works = refl;
     entries = refl;
     locks = are;
@@ -71,6 +73,7 @@ module _ (p : Content) (c : Conn) (s : Stands p) (lt : c.0 < length p.head.conns
   set-own level may_wait are = record {
     chain = kept-chained (world p.head p.history) (after p.head (world p.head p.history) (by_agent c (Set level may_wait))) p.chain refl refl refl refl refl refl
         s.parts.chain;
+    carried = no-row p.chain.log (Set level may_wait) refl;
     works = refl;
     entries = refl;
     locks = are;

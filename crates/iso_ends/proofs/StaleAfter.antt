@@ -1,8 +1,7 @@
 -- Where no pair is stale, none is after an entry that neither commits nor undoes.
-use Rattle.std.proofs.Common.{◌≡◌, ◌<◌, ◌⊎◌, inl, inr, ℕ, zero, suc, Bool, true, false, not, ◌&&◌, List, [], ◌∷◌, ◌++◌, length, refl, ap, sym, subst, ◌∙◌, arith, Some, None, Option, get_or}
+use Rattle.std.proofs.Common.{◌≡◌, ◌<◌, ◌⊎◌, inl, inr, ℕ, zero, suc, Bool, true, false, List, [], ◌∷◌, ◌++◌, length, refl, ap, sym, subst, ◌∙◌, arith, Some, None, Option, get_or}
 use Rattle.std.specs.List.{list_any}
-use Rattle.std.specs.Option.{option_map}
-use Rattle.std.specs.Prelude.{◌≤◌, is_some, nat_lt, slice_get, slice_set}
+use Rattle.std.specs.Prelude.{◌≤◌, is_some, nat_lt, slice_set}
 use Rattle.std.proofs.lemmas.Bool.{and_parts, both_ways}
 use Rattle.std.proofs.lemmas.Bool.Decides.{nat_tests}
 use Rattle.iso_ends.specs.Purges.{NoneStale, TablesThere, is_stale, may_ripen}
@@ -20,16 +19,14 @@ use Rattle.iso_history.specs.Units.{unit_of, unit_of_maker}
 use Rattle.iso_history.specs.Versions.{change_of, next_rid, pending_version, slot_list, slots, tables_by, versions, view, view_of}
 use Rattle.iso_history.specs.Versions.Change.{Adds, Writes}
 use Rattle.iso_history.specs.World.{Version, World}
-use Rattle.iso_history.specs.Writes.{may_change, may_write}
 use Rattle.iso_history.specs.declared.entry.Act.{Act}
 use Rattle.iso_history.specs.declared.entry.Act.TheVariants.{Commit, Delete, Insert, Purge, Undo, Update}
 use Rattle.iso_history.specs.declared.entry.Entry.{Entry}
 use Rattle.iso_history.specs.declared.entry.Who.{Who}
 use Rattle.iso_history.specs.declared.entry.Who.TheVariants.{Agent, Dispatcher}
-use Rattle.iso_types.specs.Head.{indexes_of, is_index, key_in, table_of_index}
+use Rattle.iso_types.specs.Head.{indexes_of, key_in, table_of_index}
 use Rattle.iso_types.specs.Ids.{index_eq}
 use Rattle.iso_types.specs.declared.head.Head.{Head}
-use Rattle.iso_types.specs.declared.head.IndexDef.{IndexDef}
 use Rattle.iso_types.specs.declared.value.Conn.{Conn}
 use Rattle.iso_types.specs.declared.value.IndexId.{IndexId}
 use Rattle.iso_types.specs.declared.value.Rid.{Rid}

@@ -4,7 +4,7 @@ use Rattle.std.specs.List.{list_any}
 use Rattle.std.specs.Option.{option_map_or}
 use Rattle.std.specs.Prelude.{zero, suc}
 use Rattle.iso_chain.specs.Slots.{SlotStands, slot_in, slots_of}
-use Rattle.iso_ends.specs.Purges.{has_key, is_left}
+use Rattle.iso_ends.specs.Purges.{has_key, is_calm, is_left, is_settled}
 use Rattle.iso_history.proofs.phantoms.GapStarts.{keyed-world}
 use Rattle.iso_history.specs.After.{world}
 use Rattle.iso_history.specs.Entries.{is_in_use, row_has}
@@ -115,3 +115,37 @@ pub stale-none : (p : Content) (s : Stands p) (i : IndexId) (d : IndexDef) (t : 
     → true ≡ (not (is_pending (versions (world p.head p.history) t r)) && not (row_has p.head i key (committed (versions (world p.head p.history) t r))))
 stale-none p s i d t key r e none =
     ap (λ (z : Slot). is_left z d.column key) (sym (get-none (slots_of p.chain.tables t) r.0 no_slot none)) ∙ stale-is p s i d t key r e
+
+-- ---- calm pairs
+
+settled-by : (s : Slot) (column : ℕ) (key : Value) (vs : List Version) → SlotStands s vs → IsLayered vs
+    → is_settled s column key ≡ (not (is_pending vs) && option_map_or (λ row. has_key row column key) (committed vs) false)
+settled-by s column key [] st o = let h = st.head in let l = st.face.live in rw (h, l) refl
+settled-by s column key (v ∷ vs) st o = go v.pending refl v.row refl
+  where
+    go : (b : Bool) → v.pending ≡ b → (r : Option (List Value)) → v.row ≡ r
+        → is_settled s column key
+        ≡ (not (is_pending (v ∷ vs)) && option_map_or (λ row. has_key row column key) (committed (v ∷ vs)) false)
+    go true p r e = let h : s.head ≡ Some v.number = rw p at st.head in rw (h, p) refl
+    go false p None e =
+        let h : s.head ≡ None = rw p at st.head in
+        let l : s.live ≡ false = rw e at st.face.live in
+        let none : vs ≡ [] = o.0 p in
+        rw (h, l, p, e, none) refl
+    go false p (Some row) e =
+        let h : s.head ≡ None = rw p at st.head in
+        let l : s.live ≡ true = rw e at st.face.live in
+        let same : s.row ≡ row = rw e at st.face.row in
+        let none : vs ≡ [] = o.0 p in
+        rw (h, l, p, e, none, same) refl
+
+-- a slot as it is found says whether the pair is calm
+pub calm-found : (p : Content) (s : Stands p) (i : IndexId) (d : IndexDef) (t : TableId) (key : Value) (r : Rid) (x : Slot)
+    → slice_get p.head.indexes i.0 ≡ Some d
+    → Some x ≡ slice_get (slots_of p.chain.tables t) r.0 → is_settled x d.column key ≡ is_calm p.head i key (versions (world p.head p.history) t r)
+unfolding VersionsLayered
+calm-found p s i d t key r x e there =
+    let w = world p.head p.history in
+    ap (λ (z : Slot). is_settled z d.column key) (sym (get-is (slots_of p.chain.tables t) r.0 no_slot x there))
+    ∙ settled-by (slot_in p.chain.tables t r) d.column key (versions w t r) (s.parts.chain.slots.each t r) ((keyed-world p.head p.history s.ground).piled t r)
+    ∙ ap (λ (b : Bool). not (is_pending (versions w t r)) && b) (row-by p.head i d key (committed (versions w t r)) e)

@@ -1,8 +1,8 @@
 -- Whether some index has a stale pair, index by index, and what follows where none has.
-use Rattle.std.proofs.Common.{◌≡◌, ◌<◌, ◌≤◌, ◌+◌, ◌∙◌, ◌⊎◌, inl, inr, ℕ, zero, suc, Bool, true, false, not, ◌&&◌, List, [], ◌∷◌, find, length, map, refl, ap, sym, subst, arith, slice_get, Some, None, Option}
+use Rattle.std.proofs.Common.{◌≡◌, ◌<◌, ◌≤◌, ◌+◌, ◌⊎◌, inl, inr, ℕ, zero, suc, Bool, true, false, not, ◌&&◌, List, [], ◌∷◌, find, length, map, refl, ap, sym, subst, arith, slice_get, Some, None, Option}
 use Rattle.std.specs.List.{list_any, range_with_len}
-use Rattle.std.specs.Option.{option_map, option_map_or}
-use Rattle.std.specs.Prelude.{is_some, nat_lt}
+use Rattle.std.specs.Option.{option_map_or}
+use Rattle.std.specs.Prelude.{is_some}
 use Rattle.std.proofs.lemmas.Bool.{both_ways}
 use Rattle.std.proofs.lemmas.Bool.Decides.{nat_tests}
 use Rattle.iso_ends.proofs.PurgeWalks.{place}
@@ -10,7 +10,6 @@ use Rattle.iso_ends.specs.Purges.{NoneStale, any_stale, is_stale, is_stale_at}
 use Rattle.iso_history.proofs.phantoms.Ordered.{find-has, find-none}
 use Rattle.iso_history.proofs.phantoms.RangeOthers.{index-there}
 use Rattle.iso_history.specs.Entries.{entries_of, is_in_use, is_purgeable, is_purgeable_of, least_purgeable, purgeable_from}
-use Rattle.iso_history.specs.Orders.{has_pair}
 use Rattle.iso_history.specs.Versions.{versions}
 use Rattle.iso_history.specs.World.{World}
 use Rattle.iso_types.specs.Head.{indexes, is_index, table_of_index}

@@ -3,6 +3,7 @@ use Rattle.std.proofs.Common.{◌≡◌, ◌≤◌, ◌<◌, ◌-◌, ℕ, true,
 use Rattle.std.specs.Option.{option_map}
 use Rattle.std.specs.Prelude.{IsSome, is_some, slice_get, unwrap_or}
 use Rattle.std.proofs.Math.ListN.{length-set}
+use Rattle.iso_chain.proofs.Carries.{one-row}
 use Rattle.iso_chain.proofs.Asks.{undo-asks}
 use Rattle.iso_chain.proofs.Rooms.{count-debt}
 use Rattle.iso_chain.proofs.Undo.{undo-chained}
@@ -75,6 +76,7 @@ module _ (p : Content) (c : Conn) (n : ℕ) (s : Stands p) (lt : c.0 < length p.
       → IsOwn p c (Undo n) (taken_back p.chain c n) l (unclaimed (desk_at p.desks c)) (p.reserved - 1)
   undo-own l limits are some = record {
     chain = undo-chained p.head (world p.head p.history) p.chain c n s.parts.chain (kept-of s) (work-there s c lt) may-take;
+    carried = one-row p.chain.log _ (Undo n) refl;
     works = length-set p.chain.book.works c.0 _;
     entries = refl;
     locks = are;

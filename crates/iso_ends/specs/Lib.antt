@@ -1,2 +1,5 @@
 pub mod Ends
 pub mod Purges
+pub mod Doubts
+pub mod Filling
+pub mod Freshness

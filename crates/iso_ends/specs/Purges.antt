@@ -28,6 +28,14 @@ has_key row column key = value_eq (slice_index_or row column Null) key
 abbrev pub is_left : Slot → ℕ → Value → Bool
 is_left s column key = is_none s.head && not (s.live && has_key s.row column key)
 
+-- no change of the slot is pending, and its row is live and has the key
+abbrev pub is_settled : Slot → ℕ → Value → Bool
+is_settled s column key = is_none s.head && (s.live && has_key s.row column key)
+
+-- no version of the slot is pending, and its committed row has the key
+abbrev pub is_calm : Head → IndexId → Value → List Version → Bool
+is_calm head i key vs = not (is_pending vs) && row_has head i key (committed vs)
+
 -- the purge of a pair
 abbrev pub purge_of : IndexId × (Value × Rid) → Act
 purge_of p = Purge p.0 p.1.0 p.1.1

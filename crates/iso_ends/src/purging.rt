@@ -4,9 +4,11 @@ ghost use Rattle.std.specs.Prelude.{◌≡◌, ◌<◌, ◌≤◌, ◌++◌, [],
 ghost use Rattle.std.specs.Option.{option_copied, option_map_or};
 ghost use Rattle.iso_chain.specs.Slots.{slots_of};
 ghost use Rattle.iso_chain.specs.Views.{bare};
-ghost use Rattle.iso_ends.specs.Purges.{has_key as has, is_left as left, purge_of, purging};
+ghost use Rattle.iso_ends.specs.Doubts.{AreKept};
+ghost use Rattle.iso_ends.specs.Purges.{has_key as has, is_calm as calm, is_left as left, is_settled as settled, purge_of, purging};
 ghost use Rattle.iso_history.specs.Entries.{entries_of, is_in_use, is_purgeable as may_go, least_purgeable, row_has, without_pair};
 ghost use Rattle.iso_history.specs.Makers.{by_dispatcher};
+ghost use Rattle.iso_history.specs.Orders.{IsOrdered};
 ghost use Rattle.iso_history.specs.Stops.{is_full};
 ghost use Rattle.iso_history.specs.Versions.{committed, is_pending, versions};
 ghost use Rattle.iso_history.specs.declared.entry.Act.TheVariants as Acts;
@@ -14,6 +16,7 @@ ghost use Rattle.iso_key.specs.Pages.{entries};
 ghost use Rattle.iso_state.specs.Stands.{StandsFor, content_of, world_of};
 ghost use Rattle.iso_types.specs.declared.value.Name.TheVariants as Names;
 
+use crate::doubts::Doubts;
 use iso_history::{Act, Entry, Who};
 use iso_key::KeyIndex;
 use iso_state::{Parts, make_room, note};
@@ -54,6 +57,31 @@ fn find_slot(parts: &Parts, table: TableId, rid: Rid) -> Option<&Slot>
     }
 }
 
+/// Whether no change of the slot is pending, and its row is live and has the key.
+fn is_settled(slot: &Slot, column: u8, key: &Value) -> bool
+    ensures { result ≡ settled slot.now column key.now }
+{
+    if slot.head.is_some() {
+        return false;
+    }
+    if slot.live {
+        return has_key(&slot.row, column, key);
+    }
+    false
+}
+
+/// Whether the pair is calm: no version of its slot is pending, and its committed row has the key. (This project's own.)
+pub(crate) fn is_calm(parts: &Parts, index: IndexId, def: &IndexDef, pair: &(Value, Rid)) -> bool
+    requires stands { StandsFor parts.now }
+    requires def { slice_get parts.now.head.indexes index.0 ≡ Some def.now }
+    ensures { result ≡ true → calm parts.now.head index pair.now.0 (versions (world_of parts.now) def.now.table pair.now.1) ≡ true }
+{
+    match find_slot(parts, def.table, pair.1) {
+        Some(slot) => is_settled(slot, def.column, &pair.0),
+        None => false,
+    }
+}
+
 /// Whether no version of the pair's slot is pending, and its committed row is not there or has another key.
 pub(crate) fn is_stale(parts: &Parts, index: IndexId, def: &IndexDef, pair: &(Value, Rid)) -> bool
     requires stands { StandsFor parts.now }
@@ -68,7 +96,7 @@ pub(crate) fn is_stale(parts: &Parts, index: IndexId, def: &IndexDef, pair: &(Va
 }
 
 /// Whether somebody holds or awaits the name of the key.
-fn is_used(parts: &Parts, index: IndexId, key: &Value) -> bool
+pub(crate) fn is_used(parts: &Parts, index: IndexId, key: &Value) -> bool
     requires stands { StandsFor parts.now }
     ensures { result ≡ is_in_use (world_of parts.now) (Names.Key index key.now) }
 {
@@ -84,7 +112,7 @@ fn is_purgeable(parts: &Parts, index: IndexId, def: &IndexDef, pair: &(Value, Ri
     is_stale(parts, index, def, pair) && !is_used(parts, index, &pair.0)
 }
 
-/// The least purgeable pair of an index. It looks at its pairs up to that one, each found by halving, and at their slots.
+/// The least of these pairs that is purgeable. It looks at the pairs up to that one, each found by halving, and at their slots.
 fn walk_purgeable(
     parts: &Parts,
     index: IndexId,
@@ -93,8 +121,8 @@ fn walk_purgeable(
 ) -> Option<(Value, Rid)>
     requires stands { StandsFor parts.now }
     requires def { slice_get parts.now.head.indexes index.0 ≡ Some def.now }
-    requires keys { entries keys.now ≡ entries_of (world_of parts.now) index }
-    ensures { result ≡ find (may_go parts.now.head (world_of parts.now) index) (entries_of (world_of parts.now) index) }
+    requires ordered { IsOrdered (entries keys.now) }
+    ensures { result ≡ find (may_go parts.now.head (world_of parts.now) index) (entries keys.now) }
 {
     let mut next = keys.first_from(None);
     while let Some(pair) = next {
@@ -125,8 +153,9 @@ fn first_in(
     None
 }
 
-/// The least purgeable pair of an index. It looks at its pairs up to that one, page by page, and at their slots.
-fn first_purgeable(
+/// The least purgeable pair among those of a set, which are in order. It looks at its pairs up to that one, page by page, and at
+/// their slots.
+pub(crate) fn first_purgeable(
     parts: &Parts,
     index: IndexId,
     def: &IndexDef,
@@ -134,8 +163,8 @@ fn first_purgeable(
 ) -> Option<(Value, Rid)>
     requires stands { StandsFor parts.now }
     requires def { slice_get parts.now.head.indexes index.0 ≡ Some def.now }
-    requires keys { entries keys.now ≡ entries_of (world_of parts.now) index }
-    ensures { result ≡ find (may_go parts.now.head (world_of parts.now) index) (entries_of (world_of parts.now) index) }
+    requires ordered { IsOrdered (entries keys.now) }
+    ensures { result ≡ find (may_go parts.now.head (world_of parts.now) index) (entries keys.now) }
 {
     let mut at: usize = 0;
     while let Some(page) = keys.page(at) {
@@ -145,35 +174,6 @@ fn first_purgeable(
         match at.checked_add(1) {
             Some(next) => at = next,
             None => return walk_purgeable(parts, index, def, keys),
-        }
-    }
-    None
-}
-
-/// The least purgeable pair of an index; none where there is no such index.
-fn least_of(parts: &Parts, index: IndexId) -> Option<(Value, Rid)>
-    requires stands { StandsFor parts.now }
-    ensures { result ≡ find (may_go parts.now.head (world_of parts.now) index) (entries_of (world_of parts.now) index) }
-{
-    let at = index.0 as usize;
-    match parts.head.indexes.get(at) {
-        Some(def) => match parts.indexes.get(at) {
-            Some(keys) => first_purgeable(parts, index, def, keys),
-            None => None,
-        },
-        None => None,
-    }
-}
-
-/// The least purgeable pair, by index, key and rid.
-fn least(parts: &Parts) -> Option<(IndexId, (Value, Rid))>
-    requires stands { StandsFor parts.now }
-    ensures { result ≡ least_purgeable parts.now.head (world_of parts.now) }
-{
-    for at in 0..parts.head.indexes.len() {
-        let index = IndexId(at as u8);
-        if let Some(pair) = least_of(parts, index) {
-            return Some((index, pair));
         }
     }
     None
@@ -217,15 +217,17 @@ fn purge_pair(parts: &mut Parts, index: IndexId, key: &Value, rid: Rid) -> Resul
 /// Purges the least purgeable pair, by index, key and rid: one whose slot has no pending version, whose committed row is not
 /// there or has another key, and the name of whose key nobody holds or awaits. False, and nothing recorded, exactly where there
 /// is none. `HistoryFull`: its entry would be full. A fault comes only where there is such a pair, and leaves all as it was. It
-/// looks at the pairs of each index in their order up to the first purgeable one, at all of them where there is none. Db2 LUW,
-/// 'Index cleanup and maintenance'; when pairs are purged is this project's own.
-pub fn purge(parts: &mut Parts) -> Result<bool, StepFault>
+/// looks at as many pairs as `Doubts::least`. Db2 LUW, 'Index cleanup and maintenance'; when pairs are purged is this project's
+/// own.
+pub fn purge(parts: &mut Parts, doubts: &mut Doubts) -> Result<bool, StepFault>
     requires stands { StandsFor parts.old }
     requires open { (world_of parts.old).pace.finished ≡ false }
     requires going { (world_of parts.old).pace.stopped ≡ false }
     requires calm { (world_of parts.old).pace.purged ≡ false }
+    requires kept { AreKept parts.old.head parts.old.history.items doubts.old }
     ensures stands { StandsFor parts.new }
     ensures head { parts.new.head ≡ parts.old.head }
+    ensures kept { AreKept parts.old.head parts.old.history.items doubts.new }
     ensures answer { IfOk result (λ b. b ≡ is_some (least_purgeable parts.old.head (world_of parts.old))) }
     ensures full { result ≡ Err StepFault.HistoryFull
         → option_map_or (λ p. is_full parts.old.head (world_of parts.old) (by_dispatcher (purge_of p))) (least_purgeable parts.old.head (world_of parts.old)) false ≡ true }
@@ -233,7 +235,7 @@ pub fn purge(parts: &mut Parts) -> Result<bool, StepFault>
     ensures err { OnErr result (content_of parts.new ≡ content_of parts.old) }
     ensures due { OnErr result (is_some (least_purgeable parts.old.head (world_of parts.old)) ≡ true) }
 {
-    match least(parts) {
+    match doubts.least(parts) {
         Some((index, pair)) => {
             purge_pair(parts, index, &pair.0, pair.1)?;
             Ok(true)
@@ -243,9 +245,11 @@ pub fn purge(parts: &mut Parts) -> Result<bool, StepFault>
 }
 
 /// Whether a pair is purgeable: whether `purge` would find one. It looks at as many pairs.
-pub fn purgeable(parts: &Parts) -> bool
+pub fn purgeable(parts: &Parts, doubts: &mut Doubts) -> bool
     requires stands { StandsFor parts.now }
-    ensures { result ≡ is_some (least_purgeable parts.now.head (world_of parts.now)) }
+    requires kept { AreKept parts.now.head parts.now.history.items doubts.old }
+    ensures kept { AreKept parts.now.head parts.now.history.items doubts.new }
+    ensures purgeable { result ≡ is_some (least_purgeable parts.now.head (world_of parts.now)) }
 {
-    least(parts).is_some()
+    doubts.least(parts).is_some()
 }

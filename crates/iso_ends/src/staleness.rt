@@ -5,6 +5,7 @@ ghost use Rattle.iso_ends.specs.Purges.{NoneStale, TablesThere, any_stale, is_st
 ghost use Rattle.iso_history.specs.After.{after};
 ghost use Rattle.iso_history.specs.Entries.{entries_of, least_purgeable};
 ghost use Rattle.iso_history.specs.Legal.{Allowed};
+ghost use Rattle.iso_history.specs.Orders.{IsOrdered};
 ghost use Rattle.iso_history.specs.World.{World};
 ghost use Rattle.iso_history.specs.declared.entry.Entry.{Entry};
 ghost use Rattle.iso_key.specs.Pages.{entries};
@@ -36,12 +37,12 @@ fn is_stale_pair(parts: &Parts, index: IndexId, def: &IndexDef, pair: &(Value, R
     is_stale(parts, index, def, pair)
 }
 
-/// Whether a pair of the index is stale. It looks at its pairs up to that one, each found by halving, and at their slots.
+/// Whether one of these pairs is stale. It looks at the pairs up to that one, each found by halving, and at their slots.
 fn walk_stale(parts: &Parts, index: IndexId, def: &IndexDef, keys: &KeyIndex) -> bool
     requires stands { StandsFor parts.now }
     requires def { slice_get parts.now.head.indexes index.0 ≡ Some def.now }
-    requires keys { entries keys.now ≡ entries_of (world_of parts.now) index }
-    ensures { result ≡ is_some (find (stale_at parts.now.head (world_of parts.now) index) (entries_of (world_of parts.now) index)) }
+    requires ordered { IsOrdered (entries keys.now) }
+    ensures { result ≡ is_some (find (stale_at parts.now.head (world_of parts.now) index) (entries keys.now)) }
 {
     let mut next = keys.first_from(None);
     while let Some(pair) = next {
@@ -67,12 +68,13 @@ fn has_stale_page(parts: &Parts, index: IndexId, def: &IndexDef, page: &[(Value,
     false
 }
 
-/// Whether a pair of the index is stale. It looks at its pairs up to that one, page by page, and at their slots.
-fn has_stale_pair(parts: &Parts, index: IndexId, def: &IndexDef, keys: &KeyIndex) -> bool
+/// Whether a pair of a set, whose pairs are in order, is stale in the index. It looks at its pairs up to that one, page by page, and
+/// at their slots. (This project's own.)
+pub(crate) fn has_stale_pair(parts: &Parts, index: IndexId, def: &IndexDef, keys: &KeyIndex) -> bool
     requires stands { StandsFor parts.now }
     requires def { slice_get parts.now.head.indexes index.0 ≡ Some def.now }
-    requires keys { entries keys.now ≡ entries_of (world_of parts.now) index }
-    ensures { result ≡ is_some (find (stale_at parts.now.head (world_of parts.now) index) (entries_of (world_of parts.now) index)) }
+    requires ordered { IsOrdered (entries keys.now) }
+    ensures { result ≡ is_some (find (stale_at parts.now.head (world_of parts.now) index) (entries keys.now)) }
 {
     let mut at: usize = 0;
     while let Some(page) = keys.page(at) {
@@ -82,35 +84,6 @@ fn has_stale_pair(parts: &Parts, index: IndexId, def: &IndexDef, keys: &KeyIndex
         match at.checked_add(1) {
             Some(next) => at = next,
             None => return walk_stale(parts, index, def, keys),
-        }
-    }
-    false
-}
-
-/// Whether a pair of the index is stale; none is where there is no such index.
-fn has_stale_in(parts: &Parts, index: IndexId) -> bool
-    requires stands { StandsFor parts.now }
-    ensures { result ≡ is_some (find (stale_at parts.now.head (world_of parts.now) index) (entries_of (world_of parts.now) index)) }
-{
-    let at = index.0 as usize;
-    match parts.head.indexes.get(at) {
-        Some(def) => match parts.indexes.get(at) {
-            Some(keys) => has_stale_pair(parts, index, def, keys),
-            None => false,
-        },
-        None => false,
-    }
-}
-
-/// Whether a pair of an index is stale: no version of its slot is pending, and its committed row is not there or has another
-/// key. It looks at all pairs of the indexes where none is. (This project's own.)
-pub fn has_stale(parts: &Parts) -> bool
-    requires stands { StandsFor parts.now }
-    ensures { result ≡ any_stale parts.now.head (world_of parts.now) }
-{
-    for at in 0..parts.head.indexes.len() {
-        if has_stale_in(parts, IndexId(at as u8)) {
-            return true;
         }
     }
     false

@@ -1,4 +1,5 @@
 pub mod Stops
 pub mod Outcomes
 pub mod Complete
+pub mod Order
 pub mod Aims

@@ -1,7 +1,7 @@
 ghost use Rattle.std.specs.Prelude.{◌≡◌, ℕ, ◌≤◌, ◌⊎◌, Some, None, Option, ◌↔◌, List, [], ◌∷◌, ◌++◌, string_bytes, length, true, IsTrue, IfOk, codes};
 ghost use Rattle.std.specs.Fmt.{decimal};
 ghost use Rattle.std.specs.Io.KnownBytes.{Appends, Consumes, IsAtEnd};
-ghost use Rattle.iso_engine.specs.Job.{IsAnswered, IsComplete, IsCounted, IsMixed, IsOutcome, IsRefusal, IsSaid, IsScript, IsTold, TellsRefusal, IsWritten, aim_of, course_of, output_of, refusal_at, told_by, usage};
+ghost use Rattle.iso_engine.specs.Job.{IsAnswered, IsComplete, IsCounted, IsDriven, IsInOrder, IsMixed, IsOutcome, IsRefusal, IsRunWhole, IsSaid, IsSaidWhole, IsScript, IsTold, TellsRefusal, IsWritten, aim_of, course_of, mixing, output_of, refusal_at, told_by, usage};
 ghost use Rattle.iso_io.specs.Moves.{AppendsPart, HasRisen};
 ghost use Rattle.iso_script.specs.Reading.{place_at, word_of};
 ghost use Rattle.iso_script.specs.Sound.{IsSound};
@@ -10,8 +10,9 @@ ghost use Rattle.iso_generate.specs.Generated.{generated};
 ghost use Rattle.iso_words.specs.Table.{job_of, texts};
 ghost use Rattle.iso_words.specs.declared.parts.Job.TheVariants.{Generate, Mix};
 ghost use Rattle.iso_engine.specs.declared.job.Aim.TheVariants.{Run};
-ghost use Rattle.iso_history.specs.Paces.{is_stop};
 ghost use Rattle.iso_conduct.specs.Conduct.{stops_for_memory as is_memory_stop};
+ghost use Rattle.iso_conduct.specs.Legal.{AreGuarded, IsFinished, IsLegal};
+ghost use Rattle.iso_script.specs.Reading.{reads};
 ghost use Rattle.iso_script.specs.declared.script.Script.{Script as Program};
 
 use iso_generate::generate;
@@ -20,6 +21,7 @@ use iso_io::{ReadFault, Sink, Source, read_script, write_whole};
 use iso_render::{Output, write_count, write_output};
 use iso_script::{LineCause, Script, ScriptFault};
 use iso_serial::run_serial;
+use iso_threads::run_threads;
 use iso_types::Gate;
 use iso_words::{Job, read_words};
 use std::alloc::{AllocError, Global};
@@ -70,18 +72,18 @@ fn status_of(entries: &[Entry]) -> u8
 {
     if has_memory_stop(entries) {
         5
-    } else if has_stop(entries) {
+    } else if has_limit_stop(entries) {
         6
     } else {
         0
     }
 }
 
-/// Whether somebody stopped, for whatever cause.
-fn has_stop(entries: &[Entry]) -> bool
-    ensures { result ≡ stopping.has_stop entries.now }
+/// Whether somebody stopped at the limit of the history or of a table.
+fn has_limit_stop(entries: &[Entry]) -> bool
+    ensures { result ≡ stopping.has_limit_stop entries.now }
 {
-    entries.iter().any(|entry| stops(&entry.act))
+    entries.iter().any(|entry| stops_at_limit(&entry.act))
 }
 
 /// Whether somebody stopped for want of memory.
@@ -91,11 +93,16 @@ fn has_memory_stop(entries: &[Entry]) -> bool
     entries.iter().any(|entry| stops_for_memory(&entry.act))
 }
 
-/// Whether it is a stop, for whatever cause.
-fn stops(act: &Act) -> bool
-    ensures { result ≡ is_stop act.now }
+/// Whether it is a stop at the limit of the history or of a table.
+fn stops_at_limit(act: &Act) -> bool
+    ensures { result ≡ stopping.stops_at_limit act.now }
 {
-    matches!(act, Act::Stopped { .. })
+    matches!(
+        act,
+        Act::Stopped {
+            cause: Cause::History | Cause::Table
+        }
+    )
 }
 
 /// Whether it is a stop for want of memory.
@@ -110,10 +117,19 @@ fn stops_for_memory(act: &Act) -> bool
     )
 }
 
-/// How a script is run: with a seed for its schedule or without one, and what is written of the run.
+/// How a script is run.
+#[derive(Clone, Copy)]
+enum Way {
+    /// On threads, one for each connection that gets one.
+    Threaded,
+    /// On this thread, by the words of the seed where there is one.
+    Serial(Option<u64>),
+}
+
+/// How a script is run, and what is written of the run.
 #[derive(Clone, Copy)]
 struct Course {
-    seed: Option<u64>,
+    way: Way,
     output: Output,
 }
 
@@ -126,14 +142,47 @@ enum Aim {
     Count,
 }
 
+/// The history of a run, on threads or on this thread; want of memory comes before its first entry alone.
+fn run_by<R: Threads + Wait + Sync, G: Gate + Sync>(
+    rt: &R,
+    alloc: Global,
+    script: &Script,
+    way: Way,
+    gate: &G,
+) -> Result<History, AllocError>
+    requires sound { IsSound script.now }
+    ensures legal { IfOk result (λ h. IsLegal script.now h.items) }
+    ensures guarded { IfOk result (λ h. AreGuarded script.now h.items) }
+    ensures finished { IfOk result (λ h. IsFinished h.items) }
+    ensures driven { IfOk result (λ h. IsDriven way script.now h.items) }
+{
+    match way {
+        Way::Threaded => match run_threads(rt, alloc, script, gate) {
+            Ok(history) => Ok(history),
+            Err(_) => Err(AllocError),
+        },
+        Way::Serial(seed) => match run_serial(alloc, script, seed) {
+            Ok(history) => Ok(history),
+            Err(_) => Err(AllocError),
+        },
+    }
+}
+
 /// Runs a script and writes what is to be written of the run.
-fn run_script<K: Sink>(alloc: Global, script: &Script, course: Course, sink: &mut K) -> Report
+fn run_script<R: Threads + Wait + Sync, K: Sink, G: Gate + Sync>(
+    rt: &R,
+    alloc: Global,
+    script: &Script,
+    course: Course,
+    sink: &mut K,
+    gate: &G,
+) -> Report
     requires sound { IsSound script.now }
     ensures told { IsTold course script.now result.status result.history.items (K.held sink.old) (K.held sink.new) }
     ensures fault { result.status ≡ 4 → HasRisen (K.faults sink.old) (K.faults sink.new) }
     ensures read { (result.status ≡ 3 → ⊥) × (result.status ≡ 2 → ⊥) }
 {
-    let history = match run_serial(alloc, script, course.seed) {
+    let history = match run_by(rt, alloc, script, course.way, gate) {
         Ok(history) => history,
         Err(_) => return without_run(5, alloc),
     };
@@ -175,14 +224,21 @@ fn say_count<K: Sink>(alloc: Global, script: &Script, sink: &mut K) -> Report
 }
 
 /// Makes of a script what the job aims at.
-fn tell<K: Sink>(alloc: Global, script: &Script, aim: Aim, sink: &mut K) -> Report
+fn tell<R: Threads + Wait + Sync, K: Sink, G: Gate + Sync>(
+    rt: &R,
+    alloc: Global,
+    script: &Script,
+    aim: Aim,
+    sink: &mut K,
+    gate: &G,
+) -> Report
     requires sound { IsSound script.now }
     ensures told { told_by aim script.now result.status result.history.items (K.held sink.old) (K.held sink.new) }
     ensures fault { result.status ≡ 4 → HasRisen (K.faults sink.old) (K.faults sink.new) }
     ensures read { (result.status ≡ 3 → ⊥) × (result.status ≡ 2 → ⊥) }
 {
     match aim {
-        Aim::Run(course) => run_script(alloc, script, course, sink),
+        Aim::Run(course) => run_script(rt, alloc, script, course, sink, gate),
         Aim::Count => say_count(alloc, script, sink),
     }
 }
@@ -202,7 +258,14 @@ fn refuse<K: Sink>(alloc: Global, line: u32, cause: LineCause, sink: &mut K) -> 
 }
 
 /// Reads a script from its bytes, which are all that the source had, and makes of it what the job aims at.
-fn tell_bytes<K: Sink>(alloc: Global, bytes: &[u8], aim: Aim, sink: &mut K) -> Report
+fn tell_bytes<R: Threads + Wait + Sync, K: Sink, G: Gate + Sync>(
+    rt: &R,
+    alloc: Global,
+    bytes: &[u8],
+    aim: Aim,
+    sink: &mut K,
+    gate: &G,
+) -> Report
     requires { length bytes.now ≤ 1048576 }
     ensures outcome { (left : Option (List ℕ)) → IsAtEnd left → IsOutcome (told_by aim) bytes.now left result.status result.history.items (K.held sink.old) (K.held sink.new) }
     ensures read { result.status ≡ 3 → ⊥ }
@@ -211,14 +274,21 @@ fn tell_bytes<K: Sink>(alloc: Global, bytes: &[u8], aim: Aim, sink: &mut K) -> R
         → TellsRefusal bytes.now left (HasRisen (K.faults sink.old) (K.faults sink.new)) (K.held sink.old) (K.held sink.new) }
 {
     match Script::read(alloc, bytes) {
-        Ok(script) => tell(alloc, &script, aim, sink),
+        Ok(script) => tell(rt, alloc, &script, aim, sink, gate),
         Err(ScriptFault::Memory) => without_run(5, alloc),
         Err(ScriptFault::BadLine(line, cause)) => refuse(alloc, line, cause, sink),
     }
 }
 
 /// Reads the source to its end, and makes of the script what the job aims at.
-fn tell_source<S: Source, K: Sink>(alloc: Global, aim: Aim, source: &mut S, sink: &mut K) -> Report
+fn tell_source<R: Threads + Wait + Sync, S: Source, K: Sink, G: Gate + Sync>(
+    rt: &R,
+    alloc: Global,
+    aim: Aim,
+    source: &mut S,
+    sink: &mut K,
+    gate: &G,
+) -> Report
     ensures named { result.status ≡ 1 → ⊥ }
     ensures refusal { result.status ≡ 2 → (bytes : List ℕ) × Consumes (S.left source.old) (S.left source.new) bytes
         × TellsRefusal bytes (S.left source.new) (HasRisen (K.faults sink.old) (K.faults sink.new)) (K.held sink.old) (K.held sink.new) }
@@ -228,7 +298,7 @@ fn tell_source<S: Source, K: Sink>(alloc: Global, aim: Aim, source: &mut S, sink
         × IsOutcome (told_by aim) bytes (S.left source.new) result.status result.history.items (K.held sink.old) (K.held sink.new) }
 {
     match read_script(alloc, source) {
-        Ok(bytes) => tell_bytes(alloc, bytes.as_slice(), aim, sink),
+        Ok(bytes) => tell_bytes(rt, alloc, bytes.as_slice(), aim, sink, gate),
         Err(ReadFault::ReadFault) => without_run(3, alloc),
         Err(ReadFault::TooLong) => {
             let _ = write_whole(sink, b"LINE 0 TOO LONG\n");
@@ -252,7 +322,14 @@ fn make<K: Sink>(alloc: Global, seed: u64, count: u32, sink: &mut K) -> Report
 
 /// Runs the script that a seed makes, and writes the summary of the run. No such script is refused or too long; where one were,
 /// the answer would be that of want of memory.
-fn mix<K: Sink>(alloc: Global, seed: u64, count: u32, sink: &mut K) -> Report
+fn mix<R: Threads + Wait + Sync, K: Sink, G: Gate + Sync>(
+    rt: &R,
+    alloc: Global,
+    seed: u64,
+    count: u32,
+    sink: &mut K,
+    gate: &G,
+) -> Report
     ensures mixed { IsMixed seed count result.status result.history.items (K.held sink.old) (K.held sink.new) }
     ensures fault { result.status ≡ 4 → HasRisen (K.faults sink.old) (K.faults sink.new) }
     ensures read { (result.status ≡ 3 → ⊥) × (result.status ≡ 2 → ⊥) × (result.status ≡ 1 → ⊥) }
@@ -267,16 +344,16 @@ fn mix<K: Sink>(alloc: Global, seed: u64, count: u32, sink: &mut K) -> Report
     match Script::read(alloc, text.as_slice()) {
         Ok(script) => {
             let course = Course {
-                seed: None,
+                way: Way::Serial(None),
                 output: Output::Summary,
             };
-            run_script(alloc, &script, course, sink)
+            run_script(rt, alloc, &script, course, sink, gate)
         }
         Err(_) => without_run(5, alloc),
     }
 }
 
-/// What the job `serial` writes.
+/// What the jobs `run` and `serial` write.
 fn output_of(trace: bool) -> Output
     ensures { result ≡ output_of trace }
 {
@@ -287,25 +364,27 @@ fn output_of(trace: bool) -> Output
     }
 }
 
-/// How the job `serial` runs a script.
-fn course_of(seed: Option<u64>, trace: bool) -> Course
-    ensures { result ≡ course_of seed trace }
+/// How the jobs `run` and `serial` run a script.
+fn course_of(way: Way, trace: bool) -> Course
+    ensures { result ≡ course_of way trace }
 {
     Course {
-        seed,
+        way,
         output: output_of(trace),
     }
 }
 
-/// Runs the job that the words name: `serial [--seed N] [--trace]` reads a script from the source, runs it on this thread, with N
-/// as the seed of its schedule, and writes its transcript to the sink, with its trace behind it; `check` reads a script and writes how many lines it has; `generate --seed N
-/// --count M` writes the script that a seed makes; `mix --seed N --count M` runs that script and writes the summary of the run.
+/// Runs the job that the words name: `run [--trace]` reads a script from the source, runs it with a thread for each connection, and
+/// writes its transcript to the sink, with its trace behind it; `serial [--seed N] [--trace]` does the same on this thread, with N
+/// as the seed of its schedule; `check` reads a script and writes how many lines it has; `generate --seed N --count M` writes the
+/// script that a seed makes; `mix --seed N --count M` runs that script on this thread and writes the summary of the run.
 ///
 /// Status 1: the words name no job. 3: the source failed. 2: the script is refused, at its first
 /// bad line or for its length. 4: the sink failed. 5: memory was wanting: before the run or for its text, and then
 /// nothing is written, or somebody stopped for it in the run. 6: somebody stopped at the limit of the history or of a
-/// table. 0: every line is answered. Where several hold, the first of these is answered. It takes one pass over the bytes,
-/// time for each entry of the history, and two or three passes over the history; `rt` and the gate are for jobs on threads.
+/// table. 0: every line is answered. Where several hold, the first of these is answered (`order`). It takes one pass over the bytes,
+/// time for each entry of the history, and two or three passes over the history. With `run` the threads take turns at the history
+/// by `rt`, and call the gate outside of it; no return is promised there. No other job waits. (This project's own.)
 pub fn db2iso<R: Threads + Wait + Sync, S: Source, K: Sink, G: Gate + Sync>(
     rt: &R,
     alloc: Global,
@@ -321,18 +400,26 @@ pub fn db2iso<R: Threads + Wait + Sync, S: Source, K: Sink, G: Gate + Sync>(
         × TellsRefusal bytes (S.left source.new) (HasRisen (K.faults sink.old) (K.faults sink.new)) (K.held sink.old) (K.held sink.new) }
     ensures source_fault { result.status ≡ 3 → HasRisen (S.faults source.old) (S.faults source.new) }
     ensures sink_fault { result.status ≡ 4 → HasRisen (K.faults sink.old) (K.faults sink.new) }
+    ensures order { IsInOrder (job_of (texts words.now)) (S.left source.old) (S.left source.new)
+        (HasRisen (S.faults source.old) (S.faults source.new)) (HasRisen (K.faults sink.old) (K.faults sink.new)) result.history.items result.status }
     ensures outcome { (aim : Aim) → aim_of (job_of (texts words.now)) ≡ Some aim → (bytes : List ℕ) × Consumes (S.left source.old) (S.left source.new) bytes
         × IsOutcome (told_by aim) bytes (S.left source.new) result.status result.history.items (K.held sink.old) (K.held sink.new) }
     ensures answered { (course : Course) → aim_of (job_of (texts words.now)) ≡ Some (Run course) → (all : List ℕ) → S.left source.old ≡ Some all
         → IsAnswered course all (S.left source.new) result.status result.history.items (K.held sink.old) (K.held sink.new) }
-    ensures complete { (course : Course) → aim_of (job_of (texts words.now)) ≡ Some (Run course) → (bytes : List ℕ) → S.left source.old ≡ Some bytes
+    ensures complete { (aim : Aim) → aim_of (job_of (texts words.now)) ≡ Some aim → (bytes : List ℕ) → S.left source.old ≡ Some bytes
         → (script : Program) → IsScript bytes script
         → ¬ HasRisen (S.faults source.old) (S.faults source.new) → ¬ HasRisen (K.faults sink.old) (K.faults sink.new)
-        → IsComplete course script result.status result.history.items (S.left source.new) (K.held sink.old) (K.held sink.new) ⊎ (result.status ≡ 5) }
+        → IsComplete aim script result.status result.history.items (S.left source.new) (K.held sink.old) (K.held sink.new) ⊎ (result.status ≡ 5) }
     ensures generated { (seed count : ℕ) → job_of (texts words.now) ≡ Some (Generate seed count)
         → IsSaid (generated seed count) result.status result.history.items (K.held sink.old) (K.held sink.new) }
+    ensures generated_whole { (seed count : ℕ) → job_of (texts words.now) ≡ Some (Generate seed count)
+        → ¬ HasRisen (K.faults sink.old) (K.faults sink.new)
+        → IsSaidWhole (generated seed count) result.status (K.held sink.old) (K.held sink.new) ⊎ (result.status ≡ 5) }
     ensures mixed { (seed count : ℕ) → job_of (texts words.now) ≡ Some (Mix seed count)
         → IsMixed seed count result.status result.history.items (K.held sink.old) (K.held sink.new) }
+    ensures mixed_whole { (seed count : ℕ) → job_of (texts words.now) ≡ Some (Mix seed count)
+        → (script : Program) → reads (generated seed count) script → ¬ HasRisen (K.faults sink.old) (K.faults sink.new)
+        → IsRunWhole mixing script result.status result.history.items (K.held sink.old) (K.held sink.new) ⊎ (result.status ≡ 5) }
     ensures unread { aim_of (job_of (texts words.now)) ≡ None → (S.left source.new ≡ S.left source.old) × (S.faults source.new ≡ S.faults source.old) }
 {
     match read_words(words) {
@@ -340,11 +427,16 @@ pub fn db2iso<R: Threads + Wait + Sync, S: Source, K: Sink, G: Gate + Sync>(
             let _ = write_whole(sink, b"USAGE\n");
             without_run(1, alloc)
         }
-        Some(Job::Serial { seed, trace }) => {
-            tell_source(alloc, Aim::Run(course_of(seed, trace)), source, sink)
+        Some(Job::Run { trace }) => {
+            let course = course_of(Way::Threaded, trace);
+            tell_source(rt, alloc, Aim::Run(course), source, sink, gate)
         }
-        Some(Job::Check) => tell_source(alloc, Aim::Count, source, sink),
+        Some(Job::Serial { seed, trace }) => {
+            let course = course_of(Way::Serial(seed), trace);
+            tell_source(rt, alloc, Aim::Run(course), source, sink, gate)
+        }
+        Some(Job::Check) => tell_source(rt, alloc, Aim::Count, source, sink, gate),
         Some(Job::Generate { seed, count }) => make(alloc, seed, count, sink),
-        Some(Job::Mix { seed, count }) => mix(alloc, seed, count, sink),
+        Some(Job::Mix { seed, count }) => mix(rt, alloc, seed, count, sink, gate),
     }
 }

@@ -39,7 +39,7 @@ const CASES: [(&[&str], &[u8], &[u8], u8); 25] = [
     (&[], FIRST, b"USAGE\n", 1),
     (&["serial", "serial"], FIRST, b"USAGE\n", 1),
     (&["SERIAL"], FIRST, b"USAGE\n", 1),
-    (&["run"], FIRST, b"USAGE\n", 1),
+    (&["run"], FIRST, TOLD, 0),
     (&[""], FIRST, b"USAGE\n", 1),
     (&["serial"], b"", b"LINE 1 SYNTAX AT 1\n", 2),
     (
@@ -343,9 +343,27 @@ const TRACED: &[u8] =
 const MADE: &[u8] =
     b"DB2ISO 1\nTABLE ACCT (ID INTEGER NOT NULL, BAL BIGINT NOT NULL, TAG VARCHAR(8))\nUNIQUE INDEX PK ON ACCT (ID)\nROW ACCT (10, 1000, 'a')\nROW ACCT (20, 1000, 'a')\nROW ACCT (30, 1000, 'a')\nROW ACCT (40, 1000, 'a')\nROW ACCT (50, 1000, 'a')\nROW ACCT (60, 1000, 'a')\nROW ACCT (70, 1000, 'a')\nROW ACCT (80, 1000, 'a')\nROW ACCT (90, 1000, 'a')\nROW ACCT (100, 1000, 'a')\nROW ACCT (110, 1000, 'a')\nROW ACCT (120, 1000, 'a')\nROW ACCT (130, 1000, 'a')\nROW ACCT (140, 1000, 'a')\nROW ACCT (150, 1000, 'a')\nROW ACCT (160, 1000, 'a')\nROW ACCT (170, 1000, 'a')\nROW ACCT (180, 1000, 'a')\nROW ACCT (190, 1000, 'a')\nROW ACCT (200, 1000, 'a')\nCONNECT A CS\nCONNECT B CS\nCONNECT C RS\nCONNECT D RR\nBEGIN\nB: SELECT BAL FROM ACCT WHERE ID = 50\nA: DELETE FROM ACCT WHERE ID = 269\nEND\n";
 
+// A deadlock of two connections, and then a wait that times out.
+const TWO: &[u8] =
+    b"DB2ISO 1\nCONFIG CUR_COMMIT DISABLED\nTABLE T (V INTEGER)\nROW T (100)\nCONNECT A RS\nCONNECT B RS\nBEGIN\nA: SELECT V FROM T\nB: SELECT V FROM T\nA: UPDATE T SET V = 1\nB: UPDATE T SET V = 2\nB: SELECT V FROM T\nEXPIRE B\nA: COMMIT\nEND\n";
+
+const TWO_TOLD: &[u8] =
+    b"8 A ROW 100\n8 A SQLCODE 0\n9 B ROW 100\n9 B SQLCODE 0\n10 A WAITS X ROW T 0\n11 B WAITS U ROW T 0\n11 B SQLCODE -911 REASON 2\n10 A SQLCODE 0 ROWS 1\n12 B WAITS NS ROW T 0\n13 EXPIRE B\n12 B SQLCODE -911 REASON 68\n14 A SQLCODE 0\nEND\n";
+
+// Two connections at work at the same time, and what is told of them with the seed 5.
+const BESIDE: &[u8] =
+    b"DB2ISO 1\nTABLE T (ID INTEGER NOT NULL, V INTEGER)\nROW T (1, 100)\nCONNECT A\nCONNECT B\nBEGIN\nA: UPDATE T SET V = V + 1\n& B: UPDATE T SET V = V + 10\n& A: COMMIT\nB: COMMIT\nEND\n";
+
+const BESIDE_TOLD: &[u8] =
+    b"7 A WAITS U ROW T 0\n9 A BUSY\n8 B SQLCODE 0 ROWS 1\n10 B SQLCODE 0\n7 A SQLCODE 0 ROWS 1\nEND\n";
+
 // The other jobs, and words that name none.
-const JOBS: [(&[&str], &[u8], &[u8], u8); 10] = [
+const JOBS: [(&[&str], &[u8], &[u8], u8); 14] = [
     (&["serial", "--trace"], ONE, TRACED, 0),
+    (&["run", "--trace"], ONE, TRACED, 0),
+    (&["serial"], TWO, TWO_TOLD, 0),
+    (&["run"], TWO, TWO_TOLD, 0),
+    (&["serial", "--seed", "5"], BESIDE, BESIDE_TOLD, 0),
     (
         &["--trace", "serial"],
         b"DB2ISO 1\nBEGIN\nEND\n",
@@ -414,7 +432,7 @@ fn streams_that_fail(rt: HostRuntime) -> Result<(), Fail> {
     }
     for count in 0..6 {
         assert!(rt;
-            fails_after(&rt, &["run"], FIRST, b"USAGE\n", count, 1)?,
+            fails_after(&rt, &["runs"], FIRST, b"USAGE\n", count, 1)?,
             "{count}"
         );
     }

@@ -14,3 +14,4 @@ pub mod Pruned
 pub mod Sums
 pub mod Walked
 pub mod Weighed
+pub mod Whole

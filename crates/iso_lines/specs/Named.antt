@@ -1,8 +1,8 @@
 -- The lines of names, kept under keys: each name's line, whatever the order of the names.
 use Rattle.std.specs.Map.{lookup}
 use Rattle.std.specs.Option.{option_map_or}
-use Rattle.std.specs.Prelude.{◌≡◌, ℕ, Bool, true, List, [], Option, None, Some, IsSome, slice_index_or, unwrap_or}
-use Rattle.iso_queue.specs.Lines.{Line, claimed, settled, unheld, unqueued}
+use Rattle.std.specs.Prelude.{◌≡◌, ℕ, Bool, true, List, [], Option, None, Some, IsSome, is_some, slice_index_or, unwrap_or}
+use Rattle.iso_queue.specs.Lines.{Line, claimed, is_used, settled, unheld, unqueued}
 use Rattle.iso_types.specs.Ids.{name_eq}
 use Rattle.iso_types.specs.contracts.value.NamePartialEq.TheImpl as names
 use Rattle.iso_types.specs.declared.value.Conn.{Conn}
@@ -43,6 +43,11 @@ line_of l n = option_map_or (line_under l.slots) (key_of l.index n) nobody
 pub record IsNamed (index : List (Name × ℕ)) (slots : List (Option Line)) : Type 0 where
   pub stands : (n : Name) (k : ℕ) → key_of index n ≡ Some k → IsSome (slice_index_or slots k None)
   pub apart : (n m : Name) (k : ℕ) → key_of index n ≡ Some k → key_of index m ≡ Some k → name_eq n m ≡ true
+
+-- the same, and each name in the index is one that somebody holds or awaits
+pub record IsWhole (index : List (Name × ℕ)) (slots : List (Option Line)) : Type 0 where
+  pub named : IsNamed index slots
+  pub used : (n : Name) → is_some (key_of index n) ≡ true → is_used (line_of (kept index slots) n) ≡ true
 
 -- the connection's hold goes
 abbrev pub released : Line → Conn → Line

@@ -1,11 +1,12 @@
-ghost use Rattle.std.specs.Prelude.{◌≡◌, not, ◌<◌, ◌≤◌, ◌||◌, ◌++◌, ◌∷◌, [], IfOk, OnOk, OnErr, true, false, is_some, if◌then◌else◌, length};
+ghost use Rattle.std.specs.Prelude.{◌≡◌, List, not, ◌<◌, ◌≤◌, ◌||◌, ◌++◌, ◌∷◌, [], IfOk, OnOk, OnErr, true, false, is_some, if◌then◌else◌, length};
+ghost use Rattle.std.specs.Map.{keys_of};
 ghost use Rattle.indexmap.specs.IndexMap.{spare};
 ghost use Rattle.iso_modes.specs.Terms.{is_kept};
-ghost use Rattle.iso_queue.specs.Lines.{asked, is_granted, is_touched, is_waiter};
+ghost use Rattle.iso_queue.specs.Lines.{asked, is_granted, is_touched, is_used, is_waiter};
 ghost use Rattle.iso_queue.specs.declared.types.Asked.{Asked as Outcome};
 ghost use Rattle.iso_types.specs.Ids.{name_eq};
 ghost use Rattle.iso_types.specs.declared.value.Name.{Name as Other};
-ghost use Rattle.iso_lines.specs.Named.{changed, key_of, line_of, same};
+ghost use Rattle.iso_lines.specs.Named.{changed, key_of, line_of, nobody, same};
 ghost use Rattle.iso_lines.specs.Locks.{AreIdle, IsSeated};
 
 use crate::lines::{Change, Lines, forget};
@@ -105,6 +106,7 @@ pub fn request_in(
     ensures answer { IfOk result (λ a. a ≡ (if is_granted (line_of lines.old name.now) conn mode then Outcome.Granted else Outcome.Queued)) }
     ensures line { OnOk result (line_of lines.new name.now ≡ asked (line_of lines.old name.now) conn mode term) }
     ensures others { OnOk result ((n : Other) → name_eq name.now n ≡ false → line_of lines.new n ≡ line_of lines.old n) }
+    ensures names { OnOk result (line_of lines.old name.now ≡ nobody → keys_of lines.new.index ≡ keys_of lines.old.index ++ name.now ∷ []) }
     ensures seated { IsSeated lines.new conn desk.new }
     ensures err { OnErr result (lines.new ≡ lines.old) }
     ensures same_names { OnErr result (desk.new.names.entries ≡ desk.old.names.entries) }
@@ -123,6 +125,7 @@ pub fn change_in(lines: &mut Lines, desk: &mut Desk, conn: Conn, name: &Name, ch
     requires { IsSeated lines.old conn desk.old }
     ensures line { line_of lines.new name.now ≡ changed change conn (line_of lines.old name.now) }
     ensures others { (n : Other) → name_eq name.now n ≡ false → line_of lines.new n ≡ line_of lines.old n }
+    ensures last { (ns : List Other) → keys_of lines.old.index ≡ ns ++ name.now ∷ [] → is_used (changed change conn (line_of lines.old name.now)) ≡ false → keys_of lines.new.index ≡ ns }
     ensures seated { IsSeated lines.new conn desk.new }
     ensures fewer { length desk.new.names.entries ≤ length desk.old.names.entries }
 {

@@ -1,14 +1,14 @@
-ghost use Rattle.std.specs.Prelude.{◌≡◌, ◌≤◌, length, map, [], IfSome, IfNone, IfOk, OnOk, OnErr, false, if◌then◌else◌, slice_set, Some, None, IsSome};
+ghost use Rattle.std.specs.Prelude.{◌≡◌, ◌≤◌, ◌∷◌, ◌++◌, List, length, map, [], IfSome, IfNone, IfOk, OnOk, OnErr, false, if◌then◌else◌, slice_set, Some, None, IsSome, is_some, true};
 ghost use Rattle.std.specs.List.{IsDistinct};
 ghost use Rattle.std.specs.Map.{keys_of};
 ghost use Rattle.std.specs.Option.{option_copied};
 ghost use Rattle.slab.specs.Slab.{ContainsKey, get as slot, Updates};
-ghost use Rattle.indexmap.specs.IndexMap.{IsUnchanged};
-ghost use Rattle.iso_queue.specs.Lines.{Line, asked, is_granted};
+ghost use Rattle.indexmap.specs.IndexMap.{IsUnchanged, insert_entry};
+ghost use Rattle.iso_queue.specs.Lines.{Line, asked, is_granted, is_used};
 ghost use Rattle.iso_queue.specs.declared.types.Asked.{Asked as Outcome};
 ghost use Rattle.iso_types.specs.Ids.{name_eq};
 ghost use Rattle.iso_types.specs.declared.value.Name.{Name as Other};
-ghost use Rattle.iso_lines.specs.Named.{IsNamed, Named, changed, key_of, line_of, nobody, same};
+ghost use Rattle.iso_lines.specs.Named.{IsNamed, IsWhole, Named, changed, kept, key_of, line_of, nobody, same};
 
 use indexmap::IndexMap;
 use iso_modes::{Mode, Term};
@@ -41,13 +41,13 @@ pub struct Lines {
 }
 
 impl Model for Lines {
-    ghost use Rattle.iso_lines.specs.Named.{IsNamed, Named};
+    ghost use Rattle.iso_lines.specs.Named.{IsWhole, Named};
 
     ghost Value = { Named };
 
     ghost view = { λ l. record { index = l.index.entries; slots = l.queues.slots } };
 
-    ghost invariant = { λ l. IsNamed l.index.entries l.queues.slots };
+    ghost invariant = { λ l. IsWhole l.index.entries l.queues.slots };
 }
 
 /// The name's key in the index.
@@ -62,6 +62,7 @@ fn keep(index: &mut IndexMap<Name, usize>, name: &Name, key: usize) -> Result<()
     requires { key_of index.old.entries name.now ≡ None }
     ensures key { OnOk result (key_of index.new.entries name.now ≡ Some key) }
     ensures others { OnOk result ((n : Other) → same name.now n ≡ false → key_of index.new.entries n ≡ key_of index.old.entries n) }
+    ensures entries { OnOk result (index.new.entries ≡ insert_entry same index.old.entries name.now key) }
     ensures err { OnErr result (index.new.entries ≡ index.old.entries) }
 {
     index.entry(*name)?.or_insert(key);
@@ -73,7 +74,9 @@ pub fn forget(index: &mut IndexMap<Name, usize>, name: &Name)
     ensures gone { key_of index.new.entries name.now ≡ None }
     ensures others { (n : Other) → same name.now n ≡ false → key_of index.new.entries n ≡ key_of index.old.entries n }
     ensures fewer { length index.new.entries ≤ length index.old.entries }
+    ensures last { (ns : List Other) → keys_of index.old.entries ≡ ns ++ name.now ∷ [] → keys_of index.new.entries ≡ ns }
 {
+    let _ = index.len();
     index.swap_remove(name);
 }
 
@@ -126,9 +129,10 @@ fn ask_new(
     term: Term,
 ) -> Result<Asked, Memory>
     requires none { key_of index.old.entries name.now ≡ None }
-    requires named { IsNamed index.old.entries queues.old.slots }
+    requires whole { IsWhole index.old.entries queues.old.slots }
     ensures answer { IfOk result (λ a. a ≡ (if is_granted nobody conn mode then Outcome.Granted else Outcome.Queued)) }
-    ensures named { IsNamed index.new.entries queues.new.slots }
+    ensures whole { IsWhole index.new.entries queues.new.slots }
+    ensures names { OnOk result (keys_of index.new.entries ≡ keys_of index.old.entries ++ name.now ∷ []) }
     ensures line { OnOk result (line_of (record { index = index.new.entries; slots = queues.new.slots }) name.now ≡ asked nobody conn mode term) }
     ensures others { OnOk result ((n : Other) → name_eq name.now n ≡ false → line_of (record { index = index.new.entries; slots = queues.new.slots }) n ≡ line_of (record { index = index.old.entries; slots = queues.old.slots }) n) }
     ensures index { OnErr result (index.new.entries ≡ index.old.entries) }
@@ -147,7 +151,9 @@ fn ask_new(
 fn sweep(index: &mut IndexMap<Name, usize>, queues: &mut Slab<Queue>, name: &Name, key: usize)
     requires key { key_of index.old.entries name.now ≡ Some key }
     requires named { IsNamed index.old.entries queues.old.slots }
-    ensures named { IsNamed index.new.entries queues.new.slots }
+    requires used { (n : Other) → name_eq name.now n ≡ false → is_some (key_of index.old.entries n) ≡ true → is_used (line_of (kept index.old.entries queues.old.slots) n) ≡ true }
+    ensures whole { IsWhole index.new.entries queues.new.slots }
+    ensures last { (ns : List Other) → keys_of index.old.entries ≡ ns ++ name.now ∷ [] → is_used (line_of (kept index.old.entries queues.old.slots) name.now) ≡ false → keys_of index.new.entries ≡ ns }
     ensures line { line_of (record { index = index.new.entries; slots = queues.new.slots }) name.now ≡ line_of (record { index = index.old.entries; slots = queues.old.slots }) name.now }
     ensures others { (n : Other) → name_eq name.now n ≡ false → line_of (record { index = index.new.entries; slots = queues.new.slots }) n ≡ line_of (record { index = index.old.entries; slots = queues.old.slots }) n }
 {
@@ -199,6 +205,7 @@ impl Lines {
         ensures answer { IfOk result (λ a. a ≡ (if is_granted (line_of self.old name.now) conn mode then Outcome.Granted else Outcome.Queued)) }
         ensures line { OnOk result (line_of self.new name.now ≡ asked (line_of self.old name.now) conn mode term) }
         ensures others { OnOk result ((n : Other) → name_eq name.now n ≡ false → line_of self.new n ≡ line_of self.old n) }
+        ensures names { OnOk result (line_of self.old name.now ≡ nobody → keys_of self.new.index ≡ keys_of self.old.index ++ name.now ∷ []) }
         ensures err { OnErr result (self.new ≡ self.old) }
     {
         match find(&self.index, name) {
@@ -222,6 +229,7 @@ impl Lines {
     pub fn change(&mut self, name: &Name, conn: Conn, change: Change)
         ensures line { line_of self.new name.now ≡ changed change conn (line_of self.old name.now) }
         ensures others { (n : Other) → name_eq name.now n ≡ false → line_of self.new n ≡ line_of self.old n }
+        ensures last { (ns : List Other) → keys_of self.old.index ≡ ns ++ name.now ∷ [] → is_used (changed change conn (line_of self.old name.now)) ≡ false → keys_of self.new.index ≡ ns }
     {
         if let Some(key) = find(&self.index, name) {
             change_at(&mut self.queues, key, conn, change);

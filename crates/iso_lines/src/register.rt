@@ -1,5 +1,5 @@
-ghost use Rattle.std.specs.Prelude.{List, Some, slice_get, [], true, map, length, ◌≡◌, ◌<◌, ◌≤◌, ◌+◌, IfOk, IfNone, IfSome, OnOk, OnErr, false, is_some, if◌then◌else◌};
-ghost use Rattle.iso_queue.specs.Lines.{asked, is_grantable, is_granted, is_touched, is_waiter};
+ghost use Rattle.std.specs.Prelude.{List, ◌∷◌, ◌++◌, Some, slice_get, [], true, map, length, ◌≡◌, ◌<◌, ◌≤◌, ◌+◌, IfOk, IfNone, IfSome, OnOk, OnErr, false, is_some, if◌then◌else◌};
+ghost use Rattle.iso_queue.specs.Lines.{asked, is_grantable, is_granted, is_touched, is_used, is_waiter};
 ghost use Rattle.iso_queue.specs.declared.types.Asked.{Asked as Outcome};
 ghost use Rattle.std.specs.List.{IsDistinct, list_any};
 ghost use Rattle.iso_types.specs.Ids.{name_eq};
@@ -100,6 +100,7 @@ impl Register {
         ensures answer { IfOk result (λ a. a ≡ (if is_granted (line_of self.old.lines name.now) conn mode then Outcome.Granted else Outcome.Queued)) }
         ensures line { OnOk result (line_of self.new.lines name.now ≡ asked (line_of self.old.lines name.now) conn mode term) }
         ensures others { OnOk result ((n : Other) → name_eq name.now n ≡ false → line_of self.new.lines n ≡ line_of self.old.lines n) }
+        ensures names { OnOk result (line_of self.old.lines name.now ≡ nobody → keys_of self.new.lines.index ≡ keys_of self.old.lines.index ++ name.now ∷ []) }
         ensures err { OnErr result (self.new ≡ self.old) }
     {
         let desk = &mut self.desks[conn.0 as usize];
@@ -115,6 +116,7 @@ impl Register {
         requires { conn.0 < 32 }
         ensures line { line_of self.new.lines name.now ≡ changed change conn (line_of self.old.lines name.now) }
         ensures others { (n : Other) → name_eq name.now n ≡ false → line_of self.new.lines n ≡ line_of self.old.lines n }
+        ensures last { (ns : List Other) → keys_of self.old.lines.index ≡ ns ++ name.now ∷ [] → is_used (changed change conn (line_of self.old.lines name.now)) ≡ false → keys_of self.new.lines.index ≡ ns }
     {
         let desk = &mut self.desks[conn.0 as usize];
         let before = desk.names.len();

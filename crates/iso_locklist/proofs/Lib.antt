@@ -26,3 +26,4 @@ pub mod Weighed
 pub mod Bridge
 pub mod Awaited
 pub mod Registered
+pub mod Undone

@@ -62,6 +62,9 @@ under_names : (slots : List (Option Line)) (es : List (Name × ℕ)) → names (
 under_names slots [] = refl
 under_names slots (e ∷ es) = ap (λ (l : List Name). e.0 ∷ l) (under_names slots es)
 
+pub names_in : (l : Named) → names (places_in l) ≡ keys_of l.index
+names_in l = under_names l.slots l.index
+
 unlike_one : (n : Name) (ks : List Name) → AllByRecursion (λ y. same n y ≡ false) ks → is_one ks n ≡ false
 unlike_one n [] all = refl
 unlike_one n (k ∷ ks) all =
@@ -78,7 +81,7 @@ pub places_apart : (l : Named) → IsDistinct same (keys_of l.index) → are_apa
 places_apart l d = ap are_apart (under_names l.slots l.index) ∙ distinct_apart (keys_of l.index) d
 
 -- places are those of their names
-by_names : (ps rs : List Place) → AllLines ps rs → rs ≡ placed (line_at ps) (names rs)
+pub by_names : (ps rs : List Place) → AllLines ps rs → rs ≡ placed (line_at ps) (names rs)
 by_names ps [] all = refl
 by_names ps (r ∷ rs) all = λ j. place r.name (sym all.0 j) ∷ by_names ps rs all.1 j
 

@@ -1,4 +1,4 @@
-ghost use Rattle.std.specs.Prelude.{drop, List, ◌≡◌, ◌<◌, ◌≤◌, [], IfOk, IfSome, IfNone, OnOk, OnErr, false, true, if◌then◌else◌, length, map};
+ghost use Rattle.std.specs.Prelude.{drop, List, ◌∷◌, ◌++◌, ◌≡◌, ◌<◌, ◌≤◌, [], IfOk, IfSome, IfNone, OnOk, OnErr, false, true, if◌then◌else◌, length, map};
 ghost use Rattle.iso_locklist.specs.Holding.{AreAsked, AreNew, AreOfHead, IsNew, all_added, HasTables, LocksAre, WaitsOnce, room_asked, room_in_lists, settled_beside};
 ghost use Rattle.iso_locklist.specs.Lists.{asked_for, IsSingleIn, claimed_holds, claimed_waits, grants_in, named_hold};
 ghost use Rattle.iso_locklist.specs.Places.{IsLimited, IsSameLimits, all_taken, are_apart, cancelled, is_covered, is_grantable_in, is_spared, line_at, names, need_of, nobody, released, room_for, room_to_ask, taken};
@@ -224,6 +224,8 @@ impl LockList {
         ensures answer { IfOk result (λ a. a ≡ (if is_granted (line_at self.old.places name.now) conn mode then Outcome.Granted else Outcome.Queued)) }
         ensures line { OnOk result (line_at self.new.places name.now ≡ asked (line_at self.old.places name.now) conn mode term) }
         ensures others { (n : Other) → name_eq name.now n ≡ false → line_at self.new.places n ≡ line_at self.old.places n }
+        ensures names { OnOk result (line_at self.old.places name.now ≡ nobody → names self.new.places ≡ names self.old.places ++ name.now ∷ []) }
+        ensures was_apart { are_apart (names self.old.places) ≡ true }
         ensures lists { (hs : List Held) (xs : List Awaiting) → LocksAre hs xs self.old → is_waiting xs conn ≡ false → OnOk result (AreAsked (grants_in hs xs conn name.now mode) hs xs conn name.now mode term self.new) }
         ensures limits { IsSameLimits self.new self.old }
         ensures err { OnErr result (self.new ≡ self.old) }
@@ -244,13 +246,14 @@ impl LockList {
     }
 
     /// Requests the modes on names that nobody holds or awaits, each to be kept: all are granted, or none is. `AtShare`,
-    /// `AtCapacity`: one of them is at that limit. `Memory`: want of memory. After a fault the holds and waits are as before.
+    /// `AtCapacity`: one of them is at that limit. `Memory`: want of memory. After a fault nothing changed.
     /// Its cost is that of as many requests.
     pub fn request_new(&mut self, conn: Conn, requests: &[Asking]) -> Result<(), LockFault>
         requires { conn.0 < 32 }
         ensures lists { (hs : List Held) (xs : List Awaiting) → LocksAre hs xs self.old → is_waiting xs conn ≡ false → AreNew hs xs requests.now → OnOk result (LocksAre (all_added hs conn requests.now) xs self.new) }
         ensures limits { IsSameLimits self.new self.old }
         ensures err { (hs : List Held) (xs : List Awaiting) → LocksAre hs xs self.old → is_waiting xs conn ≡ false → AreNew hs xs requests.now → OnErr result (LocksAre hs xs self.new) }
+        ensures same { (hs : List Held) (xs : List Awaiting) → LocksAre hs xs self.old → is_waiting xs conn ≡ false → AreNew hs xs requests.now → OnErr result (self.new ≡ self.old) }
     {
         self.request_from(conn, requests, 0)
     }
@@ -259,17 +262,24 @@ impl LockList {
     fn request_kept(&mut self, conn: Conn, name: &Name, mode: Mode) -> Result<(), LockFault>
         requires { conn.0 < 32 }
         ensures lists { (hs : List Held) (xs : List Awaiting) → LocksAre hs xs self.old → is_waiting xs conn ≡ false → IsNew hs xs name.now → OnOk result (LocksAre (added hs conn (asked_for name.now mode Terms.Kept)) xs self.new) }
+        ensures line { OnOk result (line_at self.new.places name.now ≡ asked (line_at self.old.places name.now) conn mode Terms.Kept) }
+        ensures others { OnOk result ((n : Other) → name_eq name.now n ≡ false → line_at self.new.places n ≡ line_at self.old.places n) }
+        ensures names { OnOk result (line_at self.old.places name.now ≡ nobody → names self.new.places ≡ names self.old.places ++ name.now ∷ []) }
+        ensures was_apart { are_apart (names self.old.places) ≡ true }
         ensures limits { IsSameLimits self.new self.old }
         ensures err { OnErr result (self.new ≡ self.old) }
     {
-        self.request(conn, *name, mode, Term::Kept)?;
+        self.request_at(conn, name, mode, Term::Kept)?;
         Ok(())
     }
 
     /// The connection's hold on the name goes.
     fn release_one(&mut self, conn: Conn, name: &Name)
         requires { conn.0 < 32 }
-        ensures lists { (hs : List Held) (xs : List Awaiting) → LocksAre hs xs self.old → LocksAre (freed conn name.now hs) xs self.new }
+        ensures line { line_at self.new.places name.now ≡ released (line_at self.old.places name.now) conn }
+        ensures others { (n : Other) → name_eq name.now n ≡ false → line_at self.new.places n ≡ line_at self.old.places n }
+        ensures last { (ns : List Other) → names self.old.places ≡ ns ++ name.now ∷ [] → is_used (released (line_at self.old.places name.now) conn) ≡ false → names self.new.places ≡ ns }
+        ensures is_apart { are_apart (names self.new.places) ≡ true }
         ensures limits { IsSameLimits self.new self.old }
     {
         self.release(conn, *name);
@@ -281,7 +291,7 @@ impl LockList {
         requires at { at ≤ length requests.now }
         ensures lists { (hs : List Held) (xs : List Awaiting) → LocksAre hs xs self.old → is_waiting xs conn ≡ false → AreNew hs xs (drop at requests.now) → OnOk result (LocksAre (all_added hs conn (drop at requests.now)) xs self.new) }
         ensures limits { IsSameLimits self.new self.old }
-        ensures err { (hs : List Held) (xs : List Awaiting) → LocksAre hs xs self.old → is_waiting xs conn ≡ false → AreNew hs xs (drop at requests.now) → OnErr result (LocksAre hs xs self.new) }
+        ensures err { (hs : List Held) (xs : List Awaiting) → LocksAre hs xs self.old → is_waiting xs conn ≡ false → AreNew hs xs (drop at requests.now) → OnErr result (self.new ≡ self.old) }
     {
         if at == requests.len() {
             return Ok(());
@@ -303,6 +313,8 @@ impl LockList {
         requires { conn.0 < 32 }
         ensures line { line_at self.new.places name ≡ released (line_at self.old.places name) conn }
         ensures others { (n : Other) → name_eq name n ≡ false → line_at self.new.places n ≡ line_at self.old.places n }
+        ensures last { (ns : List Other) → names self.old.places ≡ ns ++ name ∷ [] → is_used (released (line_at self.old.places name) conn) ≡ false → names self.new.places ≡ ns }
+        ensures is_apart { are_apart (names self.new.places) ≡ true }
         ensures lists { (hs : List Held) (xs : List Awaiting) → LocksAre hs xs self.old → LocksAre (freed conn name hs) xs self.new }
         ensures limits { IsSameLimits self.new self.old }
     {

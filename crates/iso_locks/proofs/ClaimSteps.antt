@@ -2,6 +2,7 @@
 use Rattle.std.proofs.Common.{◌≡◌, ◌<◌, Bool, true, false, not, List, length, refl, ap, sym, subst, ◌∙◌, arith, inl}
 use Rattle.std.specs.Option.{option_map_or}
 use Rattle.std.specs.Prelude.{None, Some, Option, is_none, is_some}
+use Rattle.iso_chain.proofs.Carries.{no-row}
 use Rattle.iso_chain.proofs.Units.{kept-chained}
 use Rattle.iso_history.specs.After.{after, world}
 use Rattle.iso_history.specs.Facts.{LockFacts, WaitersBusy, WaitersKeep, WaitsUncovered}
@@ -137,6 +138,7 @@ module _ (o p q : Parts) (c : Conn) (s : StandsFor p) (same : content_of p ≡ c
       (record { made = inl room.spare; pushed = spends.history; logged = omega (arith, more); bare = refl })
       (record {
         chain = kept-chained (world_of p) (after p.head (world_of p) (by_agent c Claim)) (content_of p).chain refl refl refl refl refl refl s.parts.chain;
+        carried = no-row (content_of p).chain.log Claim refl;
         works = refl;
         entries = refl;
         locks = claimed-are p.head (world_of p) c facts waits-now ready-now l are;

@@ -4,6 +4,7 @@ use Rattle.std.specs.Option.{option_map}
 use Rattle.std.specs.Prelude.{if◌then◌else◌, is_some, slice_set}
 use Rattle.std.proofs.Math.ListN.{length-set}
 use Rattle.std.proofs.lemmas.Bool.{ltb-true}
+use Rattle.iso_chain.proofs.Carries.{no-row}
 use Rattle.iso_chain.proofs.Units.{kept-chained}
 use Rattle.iso_history.proofs.limits.Courses.{find-passes}
 use Rattle.iso_history.proofs.limits.Victims.{found-conn}
@@ -108,6 +109,7 @@ module _ (p q : Parts) (c : Conn) (s : StandsFor p) (free : (world_of p).pace.fi
       (record { made = inr refl; pushed = spends.history; logged = omega (arith, more); bare = refl })
       (record {
         chain = kept-chained w v (content_of p).chain refl refl refl refl refl refl s.parts.chain;
+        carried = no-row (content_of p).chain.log (Close c) refl;
         works = refl;
         entries = refl;
         locks = s.parts.locks;
@@ -138,6 +140,7 @@ module _ (p q : Parts) (s : StandsFor p) (free : (world_of p).pace.finished ≡ 
       (record { made = inr refl; pushed = spends.history; logged = omega (arith, more); bare = refl })
       (record {
         chain = kept-chained w v (content_of p).chain refl refl refl refl refl refl s.parts.chain;
+        carried = no-row (content_of p).chain.log Finish refl;
         works = refl;
         entries = refl;
         locks = s.parts.locks;

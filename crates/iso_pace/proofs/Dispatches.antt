@@ -2,6 +2,7 @@
 use Rattle.std.proofs.Common.{◌≡◌, ◌≤◌, ◌<◌, ◌+◌, inl, inr, ℕ, Bool, true, false, List, [], length, refl, ap, sym, ◌∙◌, arith, subst, Some, None, Option}
 use Rattle.std.specs.Prelude.{if◌then◌else◌, is_some, slice_set, IfSome, unwrap_or}
 use Rattle.std.proofs.Math.ListN.{length-set}
+use Rattle.iso_chain.proofs.Carries.{RowsMore, no-row}
 use Rattle.iso_chain.proofs.Units.{begin-chained, resume-chained}
 use Rattle.iso_chain.specs.Stands.{AreChained, Chained}
 use Rattle.iso_history.proofs.limits.Others.{at-other, at-same, others-dispatch}
@@ -85,12 +86,13 @@ begin-desk x line c d s idle is =
 
 -- the parts after it, with what it makes of units and reserves
 begin-place : (x : Content) (line : ℕ) (c : Conn) (k : Chained) (n more old new log_old log_new : ℕ) → HasPlace x old log_old → MayBegin x c
-    → AreChained (after x.head (world x.head x.history) (by_dispatcher (Dispatch line c))) k → length k.book.works ≡ length x.chain.book.works
+    → AreChained (after x.head (world x.head x.history) (by_dispatcher (Dispatch line c))) k → RowsMore x.chain.log k.log (Dispatch line c)
+    → length k.book.works ≡ length x.chain.book.works
     → reserves_more (world x.head x.history) Dispatcher (Dispatch line c) ≡ more → n ≡ x.reserved + more → is_past x (more + 1) ≡ false
     → x.reserved + 3 ≤ old → old ≤ new + 1 → log_old ≤ log_new
     → HasPlace (repaced (stepped x k x.locks (slice_set x.desks c.0 (begun_desk (desk_at x.desks c) line (length x.chain.log))) n (by_dispatcher (Dispatch line c)))
     (pace_by x.pace Dispatcher (Dispatch line c))) new log_new
-begin-place x line c k n more old new log_old log_new s m are works is sum fits spare pushed logged =
+begin-place x line c k n more old new log_old log_new s m are carried works is sum fits spare pushed logged =
     let w = world x.head x.history in
     let v = after x.head w (by_dispatcher (Dispatch line c)) in
     let desk = begun_desk (desk_at x.desks c) line (length x.chain.log) in
@@ -99,6 +101,7 @@ begin-place x line c k n more old new log_old log_new s m are works is sum fits 
     (record { made = inl spare; pushed = pushed; logged = omega (arith, logged); bare = refl })
     (record {
       chain = are;
+      carried = carried;
       works = works;
       entries = refl;
       locks = s.parts.locks;
@@ -129,7 +132,7 @@ resumed o p q line c s same ready spends may has wrote =
     let u = unwrap_or ((world_of p).unit c) 0 in
     subst (λ (y : Content). HasPlace y q.history.spare q.log.spare) (sym wrote)
     (begin-place x line c x.chain p.reserved 0 p.history.spare q.history.spare p.log.spare q.log.spare s m
-    (resume-chained p.head (world_of p) x.chain line c u s.parts.chain (has-number ((world_of p).unit c) has_one)) refl
+    (resume-chained p.head (world_of p) x.chain line c u s.parts.chain (has-number ((world_of p).unit c) has_one)) (no-row x.chain.log (Dispatch line c) refl) refl
     (more-some (world_of p) line c has_one) (omega arith) ready.fits ready.spare spends.history spends.log)
 
 -- the next unit has nothing left
@@ -156,4 +159,5 @@ begun o p q line c s same ready spends may none b number works wrote =
     (sym (book-is b (p.units.begun + 1) (with_work p.units.works c (Some (new_work (p.units.begun + 1)))) number works))
     (begin-chained p.head w x.chain line c s.parts.chain (work-there s.stands c m.within) shut (no-marks p.head p.history.items s.ground c shut)
     (first-later w (within-of s.stands).notes) (next-left w (none_left-of s.stands))))
+    (no-row x.chain.log (Dispatch line c) refl)
     (ap (λ (l : List (Option Work)). length l) works ∙ length-set x.chain.book.works c.0 (Some (new_work (x.chain.book.begun + 1)))) (more-none w line c shut) refl ready.fits ready.spare spends.history spends.log)

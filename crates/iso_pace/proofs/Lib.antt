@@ -9,3 +9,4 @@ pub mod Closes
 pub mod Begins
 pub mod Dispatches
 pub mod QuietEnds
+pub mod Peels

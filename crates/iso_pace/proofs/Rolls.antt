@@ -1,8 +1,11 @@
 -- The parts after the dispatcher ended a connection's wait, by a line EXPIRE or for a deadlock.
-use Rattle.std.proofs.Common.{◌≡◌, ◌≤◌, ◌<◌, ◌-◌, inr, ℕ, Bool, true, false, List, length, refl, ap, sym, arith, Some, Option}
+use Rattle.std.proofs.Common.{◌≡◌, ◌≤◌, ◌<◌, ◌-◌, inr, ℕ, Bool, true, false, List, length, refl, ap, sym, arith, Some, Option, []}
 use Rattle.std.specs.Option.{option_map_or}
 use Rattle.std.specs.Prelude.{is_none, is_some, slice_set, unwrap_or}
 use Rattle.std.proofs.Math.ListN.{length-set}
+use Rattle.iso_chain.proofs.Carries.{no-row}
+use Rattle.iso_chain.specs.Carried.{rows_by}
+use Rattle.iso_history.specs.Versions.{change_of}
 use Rattle.iso_chain.proofs.Units.{kept-chained}
 use Rattle.iso_history.proofs.limits.Others.{IsSameAt, at-same, others-expire, others-victim}
 use Rattle.iso_history.specs.After.{after}
@@ -59,6 +62,7 @@ pub record EndsWait (head : Head) (w : World) (a : Act) (c : Conn) (r : ℕ) : T
   pub less : reserves_less w Dispatcher a ≡ 1
   pub refused : is_never_refused a ≡ true
   pub unlogged : log_room_of a ≡ 0
+  pub rows : rows_by (change_of a) ≡ []
 
 -- who waited and is doomed rolls back
 doomed-by : (e k d v s b t : Bool) → phase_of e k d v s ≡ Phase.Waiting → phase_of e k true b t ≡ Rolling
@@ -109,6 +113,7 @@ module _ (p q : Parts) (a : Act) (c : Conn) (r : ℕ) (s : StandsFor p) (lt : c.
       (record { made = inr i.refused; pushed = spends.history; logged = omega (arith, spent); bare = i.unlogged })
       (record {
         chain = kept-chained w v (content_of p).chain i.tables i.records i.changes i.unit i.marks i.begun s.parts.chain;
+        carried = no-row (content_of p).chain.log a i.rows;
         works = refl;
         entries = i.entries;
         locks = rw (i.holds, i.waits) are;
@@ -149,6 +154,7 @@ expire-ends head w line c = record {
   less = refl;
   refused = refl;
   unlogged = refl;
+  rows = refl;
 }
 
 -- the chosen cycle may be recorded wherever there is one
@@ -176,6 +182,7 @@ victim-ends head w cycle c is = record {
   less = refl;
   refused = refl;
   unlogged = refl;
+  rows = refl;
 }
   where
     doomed : (o : Option Conn) → o ≡ Some c → doom_by w.doom (option_map_or (λ x. Dooms x 2) o Spares) c ≡ Some 2

@@ -1,6 +1,9 @@
 -- The parts after an entry of the dispatcher that changes nothing but the history.
-use Rattle.std.proofs.Common.{◌≡◌, inl, ℕ, Bool, true, false, not, length, refl, ap, sym, subst, ◌∙◌, arith, List}
+use Rattle.std.proofs.Common.{◌≡◌, inl, ℕ, Bool, true, false, not, length, refl, ap, sym, subst, ◌∙◌, arith, List, []}
 use Rattle.std.specs.Prelude.{is_none, ◌||◌, ◌&&◌}
+use Rattle.iso_chain.proofs.Carries.{no-row}
+use Rattle.iso_chain.specs.Carried.{rows_by}
+use Rattle.iso_history.specs.Versions.{change_of}
 use Rattle.iso_chain.proofs.Units.{kept-chained}
 use Rattle.iso_history.proofs.limits.Others.{same-at}
 use Rattle.iso_history.specs.After.{after, world}
@@ -57,6 +60,7 @@ pub record IsStill (head : Head) (w : World) (a : Act) : Type 0 where
   pub less : reserves_less w Dispatcher a ≡ 0
   pub refused : is_never_refused a ≡ false
   pub unlogged : log_room_of a ≡ 0
+  pub rows : rows_by (change_of a) ≡ []
 
 at : {B : Type 0} {f g : Conn → B} → f ≡ g → (c : Conn) → f c ≡ g c
 at {B = B} {f = f} {g = g} e c = ap (λ (h : Conn → B). h c) e
@@ -77,6 +81,7 @@ still-place p q a s ready spends free by i wrote =
     (record { made = inl ready.spare; pushed = spends.history; logged = omega (arith, more); bare = i.unlogged })
     (record {
       chain = kept-chained w v (content_of p).chain i.tables i.records i.changes i.unit i.marks i.begun s.parts.chain;
+      carried = no-row (content_of p).chain.log a i.rows;
       works = refl;
       entries = i.entries;
       locks = rw (i.holds, i.waits) s.parts.locks;
@@ -116,6 +121,7 @@ busy-still head w line c = record {
   less = refl;
   refused = refl;
   unlogged = refl;
+  rows = refl;
 }
 
 pub vain-still : (head : Head) (w : World) (line : ℕ) (c : Conn) → IsStill head w (Expire line c false)
@@ -138,6 +144,7 @@ vain-still head w line c = record {
   less = refl;
   refused = refl;
   unlogged = refl;
+  rows = refl;
 }
 
 pub snapshot-still : (head : Head) (w : World) (line : ℕ) (locks : List LockLine) → IsStill head w (Snapshot line locks)
@@ -160,6 +167,7 @@ snapshot-still head w line locks = record {
   less = refl;
   refused = refl;
   unlogged = refl;
+  rows = refl;
 }
 
 -- the same, over the parts before room was made

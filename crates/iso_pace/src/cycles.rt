@@ -10,10 +10,11 @@ ghost use Rattle.iso_types.specs.Head.{conns};
 ghost use Rattle.iso_types.specs.declared.value.Conn.{Conn as Who};
 ghost use Rattle.iso_waitgraph.specs.Targets.{AreTargets};
 
+use crate::cores::cycle_of;
 use crate::phases::{two_wait, waits};
 use iso_state::Parts;
 use iso_types::{Conn, Cycle, Edges};
-use iso_waitgraph::{cycle, on_cycle};
+use iso_waitgraph::on_cycle;
 
 /// The connections for which a connection waits. The lock list is asked only where it waits.
 fn edges_of(parts: &Parts, conn: Conn) -> Edges
@@ -46,7 +47,7 @@ pub(crate) fn chosen(parts: &Parts) -> Option<Cycle>
     ensures { result ≡ cycle_in parts.now.head (world_of parts.now) }
 {
     if two_wait(parts) {
-        cycle(&graph(parts))
+        cycle_of(&graph(parts))
     } else {
         None
     }
@@ -67,7 +68,8 @@ pub(crate) fn lies_on_cycle(parts: &Parts, conn: Conn) -> bool
 
 /// Whether some connections wait for each other in a circle: a deadlock. It takes no memory. It looks at the phases first:
 /// where fewer than two connections wait there is none. Else it asks the lock list once for each connection that waits, and
-/// searches their edges. Db2 LUW, 'Deadlocks'.
+/// goes over their edges once for each edge of the longest way; only where a circle is left then it is searched for. Db2 LUW,
+/// 'Deadlocks'.
 pub fn cyclic(parts: &Parts) -> bool
     requires stands { StandsFor parts.now }
     ensures { result ≡ is_some (cycle_in parts.now.head (world_of parts.now)) }

@@ -3,6 +3,7 @@
 #![tactic(auto)]
 
 mod closing;
+mod cores;
 mod cycles;
 mod deadlocks;
 mod dispatching;

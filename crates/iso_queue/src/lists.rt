@@ -1,14 +1,19 @@
-ghost use Rattle.std.specs.Prelude.{◌≡◌, ◌&&◌, ◌+◌, ◌≤◌, ◌<◌, ◌^◌, length, true, not, filter, map, if◌then◌else◌, vec_len, vec_capacity};
+ghost use Rattle.std.specs.Prelude.{◌≡◌, ◌&&◌, ◌+◌, ◌≤◌, ◌<◌, ◌^◌, length, true, not, filter, map, if◌then◌else◌, vec_len};
 ghost use Rattle.std.specs.List.{insert};
 ghost use Rattle.std.specs.List.{list_any};
 ghost use Rattle.iso_types.specs.Ids.{conn_eq};
 ghost use Rattle.iso_modes.specs.Modes.{mode_eq};
 ghost use Rattle.iso_modes.specs.Terms as terms;
+ghost use Rattle.smallvec.specs.SmallVec.{small_vec_len, HasRoomFor};
 ghost use Rattle.iso_queue.specs.Lines.{hold_of, is_holder, waiter_of, is_waiter, granted, raised, opposes, unheld, unqueued, before, queued, has_edge, has_edge_to, would_wait, bits_of, target_of, has_mode, is_granted, is_guarded_against, settled_hold};
 
 use crate::types::{Hold, Waiter};
 use iso_modes::{Mode, Term, compatible, joined};
 use iso_types::Conn;
+use smallvec::SmallVec;
+
+/// The holders of a name: up to four in place, more in memory of their own.
+pub type Holders = SmallVec<Hold, 4>;
 
 /// The connection's hold.
 pub fn find_hold(holders: &[Hold], conn: Conn) -> Option<Hold>
@@ -154,11 +159,11 @@ fn raise(new: Hold, hold: Hold) -> Hold
 }
 
 /// An own hold is raised; else the new hold is added, in the room that there is.
-pub fn grant(holders: &mut Vec<Hold>, new: Hold)
-    requires { vec_len holders.old + 1 ≤ vec_capacity holders.old }
+pub fn grant(holders: &mut Holders, new: Hold)
+    requires { HasRoomFor holders.old 1 }
     ensures items { holders.new.items ≡ granted holders.old.items new }
-    ensures len { vec_len holders.new ≤ vec_len holders.old + 1 }
-    ensures capacity { vec_capacity holders.old ≤ vec_capacity holders.new }
+    ensures len { small_vec_len holders.new ≤ small_vec_len holders.old + 1 }
+    ensures capacity { holders.old.capacity ≤ holders.new.capacity }
 {
     for at in 0..holders.len() {
         let hold = holders[at];
@@ -167,14 +172,14 @@ pub fn grant(holders: &mut Vec<Hold>, new: Hold)
             return;
         }
     }
-    let _ = holders.push(new);
+    holders.push_reserved(new);
 }
 
 /// The connection's hold goes.
-pub fn unhold(holders: &mut Vec<Hold>, conn: Conn)
+pub fn unhold(holders: &mut Holders, conn: Conn)
     ensures items { holders.new.items ≡ unheld conn holders.old.items }
-    ensures len { vec_len holders.new ≤ vec_len holders.old }
-    ensures capacity { vec_capacity holders.new ≡ vec_capacity holders.old }
+    ensures len { small_vec_len holders.new ≤ small_vec_len holders.old }
+    ensures capacity { holders.new.capacity ≡ holders.old.capacity }
 {
     holders.retain(|hold| hold.conn != conn);
 }
@@ -200,15 +205,23 @@ fn settle_hold(hold: Hold, conn: Conn, spared: bool) -> Hold
     }
 }
 
-/// The connection's Fresh hold becomes Kept where it is not spared, and its Brief hold goes.
-pub fn settle(holders: &mut Vec<Hold>, conn: Conn, spared: bool)
-    ensures items { holders.new.items ≡ filter (λ h. not (conn_eq h.conn conn && terms.is_brief h.term)) (map (settled_hold conn spared) holders.old.items) }
-    ensures len { vec_len holders.new ≤ vec_len holders.old }
-    ensures capacity { vec_capacity holders.new ≡ vec_capacity holders.old }
+/// Each hold of the connection that is Fresh becomes Kept, where it is not spared.
+fn settle_each(holders: &mut [Hold], conn: Conn, spared: bool)
+    ensures { holders.new ≡ map (settled_hold conn spared) holders.old }
 {
     for at in 0..holders.len() {
-        holders[at] = settle_hold(holders[at], conn, spared);
+        let hold = holders[at];
+        holders[at] = settle_hold(hold, conn, spared);
     }
+}
+
+/// The connection's Fresh hold becomes Kept where it is not spared, and its Brief hold goes.
+pub fn settle(holders: &mut Holders, conn: Conn, spared: bool)
+    ensures items { holders.new.items ≡ filter (λ h. not (conn_eq h.conn conn && terms.is_brief h.term)) (map (settled_hold conn spared) holders.old.items) }
+    ensures len { small_vec_len holders.new ≤ small_vec_len holders.old }
+    ensures capacity { holders.new.capacity ≡ holders.old.capacity }
+{
+    settle_each(holders.as_mut_slice(), conn, spared);
     holders.retain(|hold| !(hold.conn == conn && is_brief(hold.term)));
 }
 

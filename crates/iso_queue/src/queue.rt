@@ -4,6 +4,7 @@ ghost use Rattle.iso_queue.specs.declared.types.Asked.{Asked as Outcome};
 ghost use Rattle.iso_queue.specs.declared.types.Claimed.{Claimed as Answer};
 
 use crate::lists;
+use crate::lists::Holders;
 use crate::types::{Asked, Claimed, Hold, Waiter};
 use iso_modes::{Mode, Term};
 use iso_types::{Conn, Edges, Memory};
@@ -13,19 +14,20 @@ use std::marker::Model;
 /// The holders of one name, and its waiters in queue order. Each call costs at most the number of both.
 #[derive(Drop)]
 pub struct Queue {
-    holders: Vec<Hold>,
+    holders: Holders,
     waiters: Vec<Waiter>,
 }
 
 impl Model for Queue {
-    ghost use Rattle.std.specs.Prelude.{◌+◌, ◌≤◌, vec_len, vec_capacity};
+    ghost use Rattle.std.specs.Prelude.{vec_len};
+    ghost use Rattle.smallvec.specs.SmallVec.{HasRoomFor};
     ghost use Rattle.iso_queue.specs.Lines.{Line};
 
     ghost Value = { Line };
 
     ghost view = { λ q. record { holders = q.holders.items; waiters = q.waiters.items } };
 
-    ghost invariant = { λ q. vec_len q.holders + vec_len q.waiters ≤ vec_capacity q.holders };
+    ghost invariant = { λ q. HasRoomFor q.holders (vec_len q.waiters) };
 }
 
 impl Queue {
@@ -35,7 +37,7 @@ impl Queue {
         ensures waiters { result.waiters ≡ [] }
     {
         Queue {
-            holders: Vec::new(alloc),
+            holders: Holders::new(alloc),
             waiters: Vec::new(alloc),
         }
     }
@@ -44,7 +46,7 @@ impl Queue {
     pub fn hold(&self, conn: Conn) -> Option<Hold>
         ensures { result ≡ hold_of self.now.holders conn }
     {
-        lists::find_hold(&self.holders, conn)
+        lists::find_hold(self.holders.as_slice(), conn)
     }
 
     /// Whether a request for the mode would be granted at once: where its target is the held mode, or it would have
@@ -52,7 +54,7 @@ impl Queue {
     pub fn would_grant(&self, conn: Conn, mode: Mode) -> bool
         ensures { result ≡ is_granted self.now conn mode }
     {
-        lists::grants(&self.holders, &self.waiters, conn, mode)
+        lists::grants(self.holders.as_slice(), &self.waiters, conn, mode)
     }
 
     /// Requests the mode. `Granted`: the connection holds it, with what it held before. `Queued`: the connection waits,
@@ -63,14 +65,14 @@ impl Queue {
         ensures line { OnOk result (self.new ≡ asked self.old conn mode term) }
         ensures err { OnErr result (self.new ≡ self.old) }
     {
-        if lists::grants(&self.holders, &self.waiters, conn, mode) {
+        if lists::grants(self.holders.as_slice(), &self.waiters, conn, mode) {
             self.holders.reserve(self.waiters.len() + 1)?;
             lists::grant(&mut self.holders, Hold { conn, mode, term });
             return Ok(Asked::Granted);
         }
-        let target = lists::target(&self.holders, conn, mode);
+        let target = lists::target(self.holders.as_slice(), conn, mode);
         let wait = Waiter { conn, target, term };
-        let at = lists::place_in_queue(&self.holders, &self.waiters, wait);
+        let at = lists::place_in_queue(self.holders.as_slice(), &self.waiters, wait);
         self.holders.reserve(self.waiters.len() + 1)?;
         self.waiters.insert(at, wait)?;
         Ok(Asked::Queued)
@@ -85,7 +87,7 @@ impl Queue {
         let Some(wait) = lists::find_waiter(&self.waiters, conn) else {
             return Claimed::NotYet;
         };
-        if lists::is_stuck(&self.holders, &self.waiters, wait) {
+        if lists::is_stuck(self.holders.as_slice(), &self.waiters, wait) {
             return Claimed::NotYet;
         }
         let new = Hold {
@@ -103,7 +105,7 @@ impl Queue {
         ensures { result ≡ is_grantable self.now conn }
     {
         match lists::find_waiter(&self.waiters, conn) {
-            Some(wait) => !lists::is_stuck(&self.holders, &self.waiters, wait),
+            Some(wait) => !lists::is_stuck(self.holders.as_slice(), &self.waiters, wait),
             None => false,
         }
     }
@@ -151,7 +153,7 @@ impl Queue {
         ensures { result.0 ≡ edges_of self.now conn }
     {
         match lists::find_waiter(&self.waiters, conn) {
-            Some(wait) => Edges(lists::edge_bits(&self.holders, &self.waiters, wait)),
+            Some(wait) => Edges(lists::edge_bits(self.holders.as_slice(), &self.waiters, wait)),
             None => Edges(0),
         }
     }
@@ -167,20 +169,21 @@ impl Queue {
     pub fn is_guarded(&self, conn: Conn) -> bool
         ensures { result ≡ is_guarded_against self.now.holders conn }
     {
-        lists::is_guarded(&self.holders, conn)
+        lists::is_guarded(self.holders.as_slice(), conn)
     }
 
     /// Whether the connection holds or awaits the name.
     pub fn touches(&self, conn: Conn) -> bool
         ensures { result ≡ is_touched self.now conn }
     {
-        lists::holds(&self.holders, conn) || lists::find_waiter(&self.waiters, conn).is_some()
+        lists::holds(self.holders.as_slice(), conn)
+            || lists::find_waiter(&self.waiters, conn).is_some()
     }
 
     /// Whether somebody holds or awaits the name. Its cost is constant.
     pub fn in_use(&self) -> bool
         ensures { result ≡ is_used self.now }
     {
-        lists::is_held(&self.holders) || lists::is_awaited(&self.waiters)
+        lists::is_held(self.holders.as_slice()) || lists::is_awaited(&self.waiters)
     }
 }

@@ -53,3 +53,19 @@ fn converts_before_new_requests(rt: HostRuntime) -> Result<(), Fail> {
     assert!(rt; asks(&mut queue, &[(C, Mode::Ns)]) == Ok(1));
     Ok(())
 }
+
+#[test]
+fn keeps_many_holders(rt: HostRuntime) -> Result<(), Fail> {
+    let mut queue = Queue::new(rt.alloc());
+    let few = [(A, Mode::Ns), (B, Mode::Ns), (C, Mode::Ns), (D, Mode::Ns)];
+    assert!(rt; asks(&mut queue, &few) == Ok(4));
+    let more = [(Conn(4), Mode::Ns), (Conn(5), Mode::Ns)];
+    assert!(rt; asks(&mut queue, &more) == Ok(2));
+    assert!(rt; queue.holders().len() == 6);
+    queue.release(A);
+    queue.release(C);
+    assert!(rt; queue.hold(A).is_none());
+    assert!(rt; matches!(queue.hold(Conn(5)), Some(hold) if hold.mode == Mode::Ns));
+    assert!(rt; matches!(queue.hold(D), Some(hold) if hold.mode == Mode::Ns));
+    Ok(())
+}

@@ -30,3 +30,14 @@ pub struct Waiter {
     pub target: Mode,
     pub term: Term,
 }
+
+/// The hold that stands in the unused places of a list of holders: nobody reads it.
+impl Default for Hold {
+    fn default() -> Hold {
+        Hold {
+            conn: Conn(0),
+            mode: Mode::In,
+            term: Term::Kept,
+        }
+    }
+}

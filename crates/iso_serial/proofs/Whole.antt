@@ -7,9 +7,10 @@ use Rattle.iso_conduct.proofs.Progress.{bounded, some-able}
 use Rattle.iso_conduct.specs.Conduct.{Conduct}
 use Rattle.iso_conduct.specs.Legal.{IsLegal}
 use Rattle.iso_conduct.specs.Schedule.{actors}
-use Rattle.iso_director.proofs.FreshAlong.{fresh-as}
+use Rattle.iso_director.proofs.UntiedAlong.{untied-as}
 use Rattle.iso_director.specs.Director.{HasTaken}
 use Rattle.iso_director.specs.declared.director.Director.{Director}
+use Rattle.iso_ends.proofs.DoubtsKept.{kept-as}
 use Rattle.iso_history.specs.After.{world}
 use Rattle.iso_history.specs.Legal.{Ground}
 use Rattle.iso_history.specs.Stops.{history_limit}
@@ -30,7 +31,8 @@ pub agent-taken : (script : Script) (old new : List Entry) (c : ℕ) (d : Direct
 agent-taken script old new c d m t = record {
   paced = paced-agent script old new c m t.paced;
   left = left-agent script old new c m ∙ t.left;
-  fresh = fresh-as script.head old new _ d.fresh m.history t.fresh;
+  kept = kept-as script.head old new _ d.doubts m.history t.kept;
+  acyclic = untied-as script.head old new _ d.acyclic m.history t.acyclic;
 }
 
 -- what the agents and the dispatcher have kept to, together

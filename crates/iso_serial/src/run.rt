@@ -32,7 +32,7 @@ fn run_turns(alloc: Global, script: &Script, parts: &mut Parts, agents: &mut Vec
     ensures finished { IsFinished parts.new.history.items }
     ensures scheduled { Scheduled script.now.head script.now.lines None parts.new.history.items }
 {
-    let mut director = Director::new();
+    let mut director = Director::new(alloc);
     take_first_turn(script, parts, &mut director);
     let mut last = 0;
     'turns: while !parts.pace.finished {
@@ -53,7 +53,7 @@ fn run_seeded(alloc: Global, script: &Script, parts: &mut Parts, agents: &mut Ve
     ensures finished { IsFinished parts.new.history.items }
     ensures scheduled { IsScheduled script.now.head script.now.lines (Some seed) parts.new.history.items }
 {
-    let mut director = Director::new();
+    let mut director = Director::new(alloc);
     let mut words = generator(seed);
     'draws: while !parts.pace.finished {
         let word = next_of(&mut words);

@@ -1,6 +1,9 @@
 -- The parts after an agent's entry, by its kind: nothing but locks and history changes, a request queues, or it timed out.
 use Rattle.std.proofs.Common.{◌≡◌, ◌≤◌, ◌<◌, ◌+◌, ◌⊎◌, inl, inr, ◌∷◌, ◌++◌, [], ℕ, Bool, true, false, not, List, length, refl, ap, sym, ◌∙◌, arith, subst, Some, None, Option}
 use Rattle.std.specs.Prelude.{Err, IfSome, IsErrAnd, Result, IsTrue, is_none, is_some, nat_lt, unwrap_or, ◌-◌}
+use Rattle.iso_chain.proofs.Carries.{no-row}
+use Rattle.iso_chain.specs.Carried.{rows_by}
+use Rattle.iso_history.specs.Versions.{change_of}
 use Rattle.iso_chain.proofs.Units.{kept-chained}
 use Rattle.iso_chain.specs.Stands.{AreChained, Chained}
 use Rattle.iso_history.proofs.limits.Full.{fullness}
@@ -91,6 +94,7 @@ pub record Leaves (head : Head) (w : World) (c : Conn) (a : Act) : Type 0 where
   pub unlogged : log_room_of a ≡ 0
   pub unclaimed_is : is_claimed (last_of a) ≡ false
   pub calm : is_stop a ≡ false
+  pub rows : rows_by (change_of a) ≡ []
 
 -- a bare entry besides leaves waits, dooms and reserves
 pub record IsBare (head : Head) (w : World) (c : Conn) (a : Act) : Type 0 where
@@ -134,6 +138,7 @@ bare-is head w c (Lock n m t why Got.Granted) e = record {
     unlogged = refl;
     unclaimed_is = locks-none why Got.Granted n m;
     calm = refl;
+    rows = refl;
   };
   waits = refl;
   doom = refl;
@@ -158,6 +163,7 @@ bare-is head w c (Look t r want Got.Granted) e = record {
     unlogged = refl;
     unclaimed_is = refl;
     calm = refl;
+    rows = refl;
   };
   waits = refl;
   doom = refl;
@@ -182,6 +188,7 @@ bare-is head w c (ScanEnd t n) e = record {
     unlogged = refl;
     unclaimed_is = refl;
     calm = refl;
+    rows = refl;
   };
   waits = refl;
   doom = refl;
@@ -206,6 +213,7 @@ bare-is head w c (Next i range at guarded (Stand.At v r)) e = record {
     unlogged = refl;
     unclaimed_is = refl;
     calm = refl;
+    rows = refl;
   };
   waits = refl;
   doom = refl;
@@ -230,6 +238,7 @@ bare-is head w c (Next i range at guarded Stand.Past) e = record {
     unlogged = refl;
     unclaimed_is = refl;
     calm = refl;
+    rows = refl;
   };
   waits = refl;
   doom = refl;
@@ -254,6 +263,7 @@ bare-is head w c (Free t r) e = record {
     unlogged = refl;
     unclaimed_is = refl;
     calm = refl;
+    rows = refl;
   };
   waits = refl;
   doom = refl;
@@ -278,6 +288,7 @@ bare-is head w c (Collapse t m) e = record {
     unlogged = refl;
     unclaimed_is = refl;
     calm = refl;
+    rows = refl;
   };
   waits = refl;
   doom = refl;
@@ -302,6 +313,7 @@ bare-is head w c (Refused code) e = record {
     unlogged = refl;
     unclaimed_is = refl;
     calm = refl;
+    rows = refl;
   };
   waits = refl;
   doom = refl;
@@ -352,6 +364,7 @@ bare-from p q l c a s ready spends free lt by kind are same wrote =
     (room-for p q a ready.spare spends k.unlogged)
     (record {
       chain = leaves-chained p.head (world_of p) c a (content_of p).chain k s.parts.chain;
+      carried = no-row (content_of p).chain.log a k.rows;
       works = refl;
       entries = k.entries;
       locks = rw b.waits are;
@@ -391,6 +404,7 @@ queued-is head w c (Lock n m t why (Got.Queued to)) e = record {
     unlogged = refl;
     unclaimed_is = locks-none why (Got.Queued to) n m;
     calm = refl;
+    rows = refl;
   };
   wait = record { name = n; conn = c; target = to; term = t };
   own = refl;
@@ -417,6 +431,7 @@ queued-is head w c (Look t r want (Got.Queued to)) e = record {
     unlogged = refl;
     unclaimed_is = refl;
     calm = refl;
+    rows = refl;
   };
   wait = record { name = Row t r; conn = c; target = to; term = wait_term want };
   own = refl;
@@ -443,6 +458,7 @@ queued-is head w c (Next i range at guarded (Stand.Queued n)) e = record {
     unlogged = refl;
     unclaimed_is = refl;
     calm = refl;
+    rows = refl;
   };
   wait = record { name = n; conn = c; target = target w.holds c n S; term = Kept };
   own = refl;
@@ -479,6 +495,7 @@ timed_out-is head w c (Lock n m t why Got.TimedOut) e = record {
     unlogged = refl;
     unclaimed_is = locks-none why Got.TimedOut n m;
     calm = refl;
+    rows = refl;
   };
   waits = refl;
   doom = refl;
@@ -503,6 +520,7 @@ timed_out-is head w c (Look t r want Got.TimedOut) e = record {
     unlogged = refl;
     unclaimed_is = refl;
     calm = refl;
+    rows = refl;
   };
   waits = refl;
   doom = refl;
@@ -527,6 +545,7 @@ timed_out-is head w c (Next i range at guarded (Stand.TimedOut n)) e = record {
     unlogged = refl;
     unclaimed_is = refl;
     calm = refl;
+    rows = refl;
   };
   waits = refl;
   doom = refl;
@@ -581,6 +600,7 @@ queued-from p q l c a s ready spends free lt runs by kind are same wrote =
     (room-for p q a ready.spare spends k.unlogged)
     (record {
       chain = leaves-chained p.head (world_of p) c a (content_of p).chain k s.parts.chain;
+      carried = no-row (content_of p).chain.log a k.rows;
       works = refl;
       entries = k.entries;
       locks = are;
@@ -633,6 +653,7 @@ timed_out-from p q l c a s ready spends free lt runs by kind are same wrote =
     (room-for p q a ready.spare spends k.unlogged)
     (record {
       chain = leaves-chained p.head (world_of p) c a (content_of p).chain k s.parts.chain;
+      carried = no-row (content_of p).chain.log a k.rows;
       works = refl;
       entries = k.entries;
       locks = rw b.waits are;

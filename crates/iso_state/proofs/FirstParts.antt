@@ -91,6 +91,7 @@ pub first-stands : (head : Head) → HeadFits head → Stands (first_content hea
 unfolding world world_from Ground GroundFrom
 first-stands head fits = record {
   parts = first-parts head;
+  carried = refl;
   conns = length-map head.conns first_desk;
   works = length-replicate (length head.conns) None;
   limits = record { share = refl; slots = refl; index_tables = refl };

@@ -3,6 +3,7 @@ use Rattle.std.proofs.Common.{◌≡◌, ◌≤◌, ◌<◌, ◌+◌, ◌⊎◌,
 use Rattle.std.specs.Prelude.{slice_set}
 use Rattle.std.proofs.Math.ListN.{length-set}
 use Rattle.std.proofs.lemmas.Bool.Decides.{nat_tests}
+use Rattle.iso_chain.proofs.Carries.{RowsMore, carried-more}
 use Rattle.iso_chain.specs.Stands.{AreChained, Chained}
 use Rattle.iso_history.proofs.Snoc.{Ground-snoc, world-snoc}
 use Rattle.iso_history.proofs.limits.Limit.{needs-le}
@@ -61,6 +62,7 @@ limits-stay head l m same is =
 -- what a step writes is what its entry makes of the world; `reserved` is the new sum of reserves
 pub record IsStep (p : Content) (e : Entry) (k : Chained) (l : Ledger) (ds : List Desk) (n : ℕ) : Type 0 where
   pub chain : AreChained (after p.head (world p.head p.history) e) k
+  pub carried : RowsMore p.chain.log k.log e.act
   pub works : length k.book.works ≡ length p.chain.book.works
   pub entries : (after p.head (world p.head p.history) e).entries ≡ (world p.head p.history).entries
   pub locks : LocksAre (after p.head (world p.head p.history) e).holds (after p.head (world p.head p.history) e).waits l
@@ -88,6 +90,7 @@ step-stands p e k l desks n s al i =
         desks = i.desks;
         reserved = same-sum n p.reserved (reserves p.head w) _ _ _ i.reserved sums s.parts.reserved;
       });
+      carried = carried-more p.chain.log k.log p.history e s.carried i.carried;
       conns = i.seats ∙ s.conns;
       works = i.works ∙ s.works;
       limits = limits-stay p.head p.locks l i.limits s.limits;
@@ -136,6 +139,7 @@ step-place p e k l desks n old new log_old log_new s al r i =
 -- what an agent's step has to show: as for any, but of the desks its own alone
 pub record IsOwn (p : Content) (c : Conn) (a : Act) (k : Chained) (l : Ledger) (d : Desk) (n : ℕ) : Type 0 where
   pub chain : AreChained (after p.head (world p.head p.history) (by_agent c a)) k
+  pub carried : RowsMore p.chain.log k.log a
   pub works : length k.book.works ≡ length p.chain.book.works
   pub entries : (after p.head (world p.head p.history) (by_agent c a)).entries ≡ (world p.head p.history).entries
   pub locks : LocksAre (after p.head (world p.head p.history) (by_agent c a)).holds (after p.head (world p.head p.history) (by_agent c a)).waits l
@@ -149,6 +153,7 @@ own-step p c a k l desk n s i =
     let w = world p.head p.history in
     record {
       chain = i.chain;
+      carried = i.carried;
       works = i.works;
       entries = i.entries;
       locks = i.locks;

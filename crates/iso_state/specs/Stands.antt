@@ -1,6 +1,7 @@
 -- When parts stand for their history.
 use Rattle.std.specs.List.{list_all}
 use Rattle.std.specs.Prelude.{◌≡◌, ◌<◌, ◌≤◌, ◌&&◌, Bool, ℕ, true, false, List, length, map, nat_le, nat_lt, slice_index_or, unwrap_or, IfSome}
+use Rattle.iso_chain.specs.Carried.{CarriesRows}
 use Rattle.iso_types.specs.Head.{indexes_of, lock_share, lock_slots, row_fits, width_of}
 use Rattle.iso_types.specs.declared.desk.Desk.{Desk}
 use Rattle.iso_types.specs.declared.desk.Phase.TheVariants.{Idle}
@@ -126,9 +127,10 @@ pub record AreOf (w : World) (p : Content) : Type 0 where
   pub pace : p.pace ≡ w.pace
   pub reserved : p.reserved ≡ reserves p.head w
 
--- the content stands for its history
+-- the content stands for its history, and the log's records carry the new row of each of its insertions and updates
 pub record Stands (p : Content) : Type 0 where
   pub parts : AreOf (world p.head p.history) p
+  pub carried : CarriesRows p.chain.log p.history
   pub conns : length p.desks ≡ length p.head.conns
   pub works : length p.chain.book.works ≡ length p.head.conns
   pub limits : IsLimitedBy p.head p.locks

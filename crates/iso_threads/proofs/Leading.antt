@@ -2,11 +2,12 @@
 use Rattle.std.proofs.Common.{◌≡◌, ℕ, zero, suc, true, cond, ne_eqb, ◌||◌, false, List, [], ◌∷◌, ◌++◌, sym, ap, ◌∙◌, subst, arith, append-nil}
 use Rattle.iso_agent.proofs.Entering.{Grown}
 use Rattle.iso_conduct.specs.Pacing.{lines_left}
+use Rattle.iso_director.proofs.UntiedAlong.{untied-as}
 use Rattle.iso_director.specs.Director.{HasLed, HasTaken, has_ended}
-use Rattle.iso_director.proofs.FreshAlong.{fresh-as}
 use Rattle.iso_director.specs.declared.director.Director.{Director}
 use Rattle.iso_director.specs.declared.director.Led.{Led}
 use Rattle.iso_director.specs.declared.director.Led.TheVariants.{Ended, Ran, Rests}
+use Rattle.iso_ends.proofs.DoubtsKept.{kept-as}
 use Rattle.iso_history.specs.After.{world}
 use Rattle.iso_history.specs.Makers.{by_dispatcher}
 use Rattle.iso_history.specs.declared.entry.Act.{Act}
@@ -41,7 +42,8 @@ taken-on script vs seen log g h c t =
     record {
       paced = rw d.1 (Paced-others script.head script.lines seen d.0 d.2 t.paced);
       left = ap (lines_left script.lines) d.1 ∙ (lines-others script.lines seen d.0 d.2 ∙ t.left);
-      fresh = fresh-as script.head seen log d.0 g.fresh d.1 t.fresh;
+      kept = kept-as script.head seen log d.0 g.doubts d.1 t.kept;
+      acyclic = untied-as script.head seen log d.0 g.acyclic d.1 t.acyclic;
     }
 
 -- where it told the end, the history had finished

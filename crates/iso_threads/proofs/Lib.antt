@@ -4,3 +4,5 @@ pub mod Firsts
 pub mod Ends
 pub mod Returned
 pub mod Started
+pub mod Sends
+pub mod Crossing

@@ -21,7 +21,8 @@ use std::sync::Wait;
 use std::thread::{PromisedHandle, Threads};
 
 /// The dispatcher's turns, and after each of them one of each agent that no thread drives, until the history has finished; where
-/// none of these made an entry, it rests at its place until another did. No memory is taken but by the agents' turns. It may wait.
+/// none of these made an entry, it rests at its place until another did. Memory is taken by the agents' turns, and for what the
+/// dispatcher knows of the pairs of the indexes. It may wait.
 pub fn lead<R: Wait, G: Gate>(
     rt: &R,
     alloc: Global,
@@ -48,7 +49,7 @@ pub fn lead<R: Wait, G: Gate>(
     ensures voices { (x : ℕ) → has x (voices result.1.items) ≡ has x (voices here.items) }
     ensures finished { (world script.now.head (seen_of result.0.seat)).pace.finished ≡ true }
 {
-    let mut director = Director::new();
+    let mut director = Director::new(alloc);
     let mut pass = pass;
     let mut here = here;
     let mut there = there;

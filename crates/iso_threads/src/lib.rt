@@ -1,10 +1,12 @@
-//! The run of a script on threads: what the dispatcher's thread does, and the passes that go out to threads and come back.
+//! The run of a script on threads: an agent for each connection on a thread of its own, and the dispatcher on the caller's.
 #![tactic(auto)]
 
 mod backs;
 mod flags;
 mod host;
 mod lead;
+#[cfg(test)]
+mod tests;
+mod threads;
 
-pub use backs::{Back, Driven, undriven};
-pub use flags::Flags;
+pub use threads::run_threads;

@@ -53,9 +53,18 @@ floor_at (Some w) name = floor_of w.marks name
 abbrev pub with_work : List (Option Work) → Conn → Option Work → List (Option Work)
 with_work works c work = slice_set works c.0 work
 
+-- the number of records that a connection's unit has to undo
+abbrev pub count_of : Option Work → ℕ
+count_of o = option_map_or (λ w. w.count) o 0
+
 -- the number of records of open units that are not undone
 abbrev pub debt_of : List (Option Work) → ℕ
 debt_of works = sum_by (λ o. option_map_or (λ w. w.count) o 0) works
+
+-- one more record of the unit, where it is its first
+abbrev pub first_added : Option Work → ℕ → Option ℕ
+first_added None n = None
+first_added (Some w) n = elim w.first [ None ↦ Some n | Some k ↦ None ]
 
 -- the lesser of two, where there are both
 abbrev pub lesser : Option ℕ → Option ℕ → Option ℕ

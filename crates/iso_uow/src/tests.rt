@@ -61,3 +61,34 @@ fn a_unit_with_a_savepoint(rt: HostRuntime) {
         Err(_) => assert!(rt; false),
     }
 }
+
+/// Whether the units tell this debt and this oldest record.
+fn tell(units: &Units, debt: u32, oldest: Option<u32>) -> bool {
+    units.debt() == debt && units.oldest() == oldest
+}
+
+#[test]
+fn debt_and_oldest_are_kept(rt: HostRuntime) {
+    match Units::new(rt.alloc(), 3) {
+        Ok(units) => {
+            let mut units = units;
+            let young = Conn(0);
+            let old = Conn(2);
+            assert!(rt; tell(&units, 0, None));
+            assert!(rt; units.begin(young) == 1 && units.begin(old) == 2);
+            assert!(rt; tell(&units, 0, None));
+            units.added(old, 3);
+            units.added(young, 4);
+            units.added(old, 5);
+            assert!(rt; tell(&units, 3, Some(3)));
+            // A record that is undone is no longer owed, but its unit still began there.
+            units.undone(old, Some(3));
+            assert!(rt; tell(&units, 2, Some(3)) && units.last(old) == Some(3));
+            units.finish(old);
+            assert!(rt; tell(&units, 1, Some(4)));
+            units.finish(young);
+            assert!(rt; tell(&units, 0, None));
+        }
+        Err(_) => assert!(rt; false),
+    }
+}

@@ -1,6 +1,6 @@
 ghost use Rattle.std.specs.Prelude.{◌≡◌, ◌≢◌, ◌+◌, ◌<◌, ◌≤◌, length, replicate, Some, None, OnOk, OnErr, IfOk, IsSome, unwrap_or};
 ghost use Rattle.std.specs.Option.{option_map};
-ghost use Rattle.iso_uow.specs.Book.{debt_of, floor_at, last_of, lesser, new_work, oldest_of, own, with_added, with_marks, with_undone, with_work, work_at};
+ghost use Rattle.iso_uow.specs.Book.{count_of, debt_of, first_added, floor_at, last_of, lesser, new_work, no_work, oldest_of, own, with_added, with_marks, with_undone, with_work, work_at};
 ghost use Rattle.iso_uow.specs.Savepoints.{down_to, floor_of, set_again};
 
 use crate::marks::Marks;
@@ -18,23 +18,26 @@ pub struct Work {
     pub marks: Marks,
 }
 
-/// The open unit of each connection, and the number of units begun.
+/// The open unit of each connection, and the number of units begun. What all of them have to undo, and the least of their
+/// first records, are kept beside them.
 #[derive(Drop)]
 pub struct Units {
     alloc: Global,
     begun: u32,
+    debt: u32,
+    oldest: Option<u32>,
     works: Vec<Option<Work>>,
 }
 
 impl Model for Units {
-    ghost use Rattle.std.specs.Prelude.{◌≤◌};
-    ghost use Rattle.iso_uow.specs.Book.{Book, debt_of};
+    ghost use Rattle.std.specs.Prelude.{◌≡◌};
+    ghost use Rattle.iso_uow.specs.Book.{Book, debt_of, oldest_of};
 
     ghost Value = { Book };
 
     ghost view = { λ u. record { begun = u.begun; works = u.works.items } };
 
-    ghost invariant = { λ u. debt_of u.works.items ≤ 4294967295 };
+    ghost invariant = { λ u. (u.debt ≡ debt_of u.works.items) × (u.oldest ≡ oldest_of u.works.items) };
 }
 
 /// No open unit, for each connection.
@@ -57,6 +60,8 @@ impl Units {
         Ok(Units {
             alloc,
             begun: 0,
+            debt: 0,
+            oldest: None,
             works: no_works(alloc, conns)?,
         })
     }
@@ -144,13 +149,15 @@ impl Units {
         }
     }
 
-    /// The connection's unit ends.
+    /// The connection's unit ends. The least first record is sought anew among those of the other connections.
     pub fn finish(&mut self, conn: Conn)
         requires conn { conn.0 < length self.old.works }
         ensures begun { self.new.begun ≡ self.old.begun }
         ensures works { self.new.works ≡ with_work self.old.works conn None }
     {
+        self.debt -= owed_by(&self.works[conn.0 as usize]);
         self.works[conn.0 as usize] = None;
+        self.oldest = oldest_in(self.works.as_slice());
     }
 
     /// The open unit has one more record, which is its last.
@@ -161,16 +168,9 @@ impl Units {
         ensures begun { self.new.begun ≡ self.old.begun }
         ensures works { self.new.works ≡ with_work self.old.works conn (Some (with_added (own self.old.works conn) number)) }
     {
-        match &mut self.works[conn.0 as usize] {
-            Some(work) => {
-                if work.first.is_none() {
-                    work.first = Some(number);
-                }
-                work.last = Some(number);
-                work.count += 1;
-            }
-            None => unreachable!(),
-        }
+        let first = add_record(&mut self.works[conn.0 as usize], number);
+        self.oldest = lesser_of(self.oldest, first);
+        self.debt += 1;
     }
 
     /// A record of the open unit is undone, and another one is its last.
@@ -188,35 +188,53 @@ impl Units {
             }
             None => unreachable!(),
         }
+        self.debt -= 1;
     }
 
-    /// The number of records of open units that are not undone.
+    /// The number of records of open units that are not undone. It is kept, not counted.
     pub fn debt(&self) -> u32
         ensures { result ≡ debt_of self.now.works }
     {
-        debt_in(self.works.as_slice())
+        self.debt
     }
 
-    /// The least first record of an open unit; None exactly where no open unit has a record.
+    /// The least first record of an open unit; None exactly where no open unit has a record. It is kept, not sought.
     pub fn oldest(&self) -> Option<u32>
         ensures { result ≡ oldest_of self.now.works }
     {
-        oldest_in(self.works.as_slice())
+        self.oldest
     }
 }
 
-/// The number of records of these units that are not undone.
-fn debt_in(works: &[Option<Work>]) -> u32
-    requires { debt_of works.now ≤ 4294967295 }
-    ensures { result ≡ debt_of works.now }
+/// The number of records that a connection's unit has to undo.
+fn owed_by(work: &Option<Work>) -> u32
+    ensures { result ≡ count_of work.now }
 {
-    let mut debt = 0;
-    for work in works {
-        if let Some(work) = work {
-            debt += work.count;
-        }
+    match work {
+        Some(work) => work.count,
+        None => 0,
     }
-    debt
+}
+
+/// The open unit has one more record, which is its last; its number where it is the unit's first, else None.
+fn add_record(work: &mut Option<Work>, number: u32) -> Option<u32>
+    requires has_unit { IsSome work.old }
+    requires few { count_of work.old < 4294967295 }
+    ensures work { work.new ≡ Some (with_added (unwrap_or work.old no_work) number) }
+    ensures first { result ≡ first_added work.old number }
+{
+    match work {
+        Some(work) => {
+            work.last = Some(number);
+            work.count += 1;
+            if work.first.is_some() {
+                return None;
+            }
+            work.first = Some(number);
+            Some(number)
+        }
+        None => unreachable!(),
+    }
 }
 
 /// The lesser of two, where there are both.

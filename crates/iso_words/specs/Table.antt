@@ -1,115 +1,46 @@
 -- The table of jobs: which words name which job. // this project's own
-use Rattle.std.specs.Cmp.Lexicographic.{pointwise}
 use Rattle.std.specs.Global.{Global}
-use Rattle.std.specs.Prelude.{String, map, string_bytes, ℕ, ◌+◌, ◌-◌, ◌*◌, ◌^◌, ◌&&◌, ◌||◌, Bool, true, false, List, [], ◌∷◌, Option, Some, None, codes, drop, if◌then◌else◌, is_some, length, min, nat_eq, nat_le, nat_lt, take}
+use Rattle.std.specs.Prelude.{String, map, string_bytes, ℕ, ◌≡◌, ◌⊎◌, ◌++◌, Bool, true, false, List, [], ◌∷◌, Option, Some, None, codes}
+use Rattle.iso_words.specs.Numbers.{is_count, number}
 use Rattle.iso_words.specs.declared.parts.Job.{Job}
-use Rattle.iso_words.specs.declared.parts.Awaits.{Awaits}
-use Rattle.iso_words.specs.declared.parts.Parts.{Parts}
+use Rattle.iso_words.specs.declared.parts.Job.TheVariants.{Check, Generate, Mix, Run, Serial}
 use Rattle.iso_words.specs.declared.parts.Task.{Task}
+pub use Rattle.iso_words.specs.Scan.{job_of}
 
 -- the texts of the words
 abbrev pub texts : List (String Global) → List (List ℕ)
 texts words = map string_bytes words
 
--- the word is this one
-abbrev pub is_word : List ℕ → List ℕ → Bool
-is_word word text = pointwise nat_eq word text
+-- the word of a job
+abbrev pub word_of : Task → List ℕ
+word_of Task.Run = codes "run"
+word_of Task.Serial = codes "serial"
+word_of Task.Check = codes "check"
+word_of Task.Generate = codes "generate"
+word_of Task.Mix = codes "mix"
 
--- the word begins so
-abbrev pub begins : List ℕ → List ℕ → Bool
-begins word front = nat_le (length front) (length word) && pointwise nat_eq (take (length front) word) front
+-- before the rest stands this option with the number n, in the next word or behind `=`
+abbrev pub HasOption : List ℕ → ℕ → List (List ℕ) → List (List ℕ) → Type 0
+HasOption name n words rest = (text : List ℕ) × (number text ≡ Some n) × ((words ≡ name ∷ text ∷ rest) ⊎ (words ≡ (name ++ codes "=" ++ text) ∷ rest))
 
--- one more than the greatest number that an option may have
-abbrev pub bound : ℕ
-bound = 2 ^ 64
+-- What words say, in any order: the job, the number of --seed, the number of --count, and whether --trace is there; each stands once
+-- or not at all.
+pub data Says : List (List ℕ) → Option Task → Option ℕ → Option ℕ → Bool → Type 0 where
+  Nothing : Says [] None None None false
+  Names : (task : Task) (seed count : Option ℕ) (trace : Bool) (rest : List (List ℕ)) → Says rest None seed count trace
+      → Says (word_of task ∷ rest) (Some task) seed count trace
+  Seeds : (n : ℕ) (task : Option Task) (count : Option ℕ) (trace : Bool) (words rest : List (List ℕ)) → HasOption (codes "--seed") n words rest
+      → Says rest task None count trace → Says words task (Some n) count trace
+  Counts : (m : ℕ) (task : Option Task) (seed : Option ℕ) (trace : Bool) (words rest : List (List ℕ)) → HasOption (codes "--count") m words rest
+      → Says rest task seed None trace → Says words task seed (Some m) trace
+  Traces : (task : Option Task) (seed count : Option ℕ) (rest : List (List ℕ)) → Says rest task seed count false
+      → Says (codes "--trace" ∷ rest) task seed count true
 
--- the number that digits go on to; one past the bound stays at it
-abbrev pub number_from : ℕ → List ℕ → Option ℕ
-number_from n [] = if nat_lt n bound then Some n else None
-number_from n (b ∷ bytes) = if nat_le 48 b && nat_le b 57 then number_from (min (10 * n + (b - 48)) bound) bytes else None
-
--- a number of 1 to 20 digits
-abbrev pub number : List ℕ → Option ℕ
-number text = if nat_le 1 (length text) && nat_le (length text) 20 then number_from 0 text else None
-
--- the words are no row of the table
-abbrev pub spoilt : Parts → Parts
-spoilt p = record p { bad = true }
-
--- the seed; it stands once
-abbrev pub with_seed : Parts → Option ℕ → Parts
-with_seed p None = spoilt p
-with_seed p (Some n) = if is_some p.seed then spoilt p else record p { seed = Some n; awaits = Awaits.Nothing }
-
--- the count; it stands once
-abbrev pub with_count : Parts → Option ℕ → Parts
-with_count p None = spoilt p
-with_count p (Some n) = if is_some p.count then spoilt p else record p { count = Some n; awaits = Awaits.Nothing }
-
--- the job; it stands once
-abbrev pub with_task : Parts → Task → Parts
-with_task p task = if is_some p.task then spoilt p else record p { task = Some task }
-
--- the option --trace; it stands once
-abbrev pub with_trace : Parts → Parts
-with_trace p = if p.trace then spoilt p else record p { trace = true }
-
--- a word where no value is awaited: a job, an option whose value follows, or an option with its value
-abbrev pub with_word : Parts → List ℕ → Parts
-with_word p w =
-    if is_word w (codes "serial") then with_task p Task.Serial
-    else if is_word w (codes "check") then with_task p Task.Check
-    else if is_word w (codes "generate") then with_task p Task.Generate
-    else if is_word w (codes "mix") then with_task p Task.Mix
-    else if is_word w (codes "--trace") then with_trace p
-    else if is_word w (codes "--seed") then record p { awaits = Awaits.Seed }
-    else if is_word w (codes "--count") then record p { awaits = Awaits.Count }
-    else if begins w (codes "--seed=") then with_seed p (number (drop 7 w))
-    else if begins w (codes "--count=") then with_count p (number (drop 8 w))
-    else spoilt p
-
--- a word by what is awaited
-abbrev pub step_by : Awaits → Parts → List ℕ → Parts
-step_by Awaits.Nothing p w = with_word p w
-step_by Awaits.Seed p w = with_seed p (number w)
-step_by Awaits.Count p w = with_count p (number w)
-
--- one word more
-abbrev pub step : Parts → List ℕ → Parts
-step p w = step_by p.awaits p w
-
--- no word yet
-abbrev pub none_yet : Parts
-none_yet = record { task = None; seed = None; count = None; trace = false; awaits = Awaits.Nothing; bad = false }
-
--- what words make of these parts
-abbrev pub parts_from : Parts → List (List ℕ) → Parts
-parts_from p [] = p
-parts_from p (w ∷ ws) = parts_from (step p w) ws
-
--- how many lines may be generated
-abbrev pub is_count : ℕ → Bool
-is_count m = nat_le 1 m && nat_le m 10000
-
--- the job that the parts make
-abbrev pub job_by : Option Task → Option ℕ → Option ℕ → Bool → Option Job
-job_by (Some Task.Serial) seed None trace = Some (Job.Serial seed trace)
-job_by (Some Task.Check) None None false = Some Job.Check
-job_by (Some Task.Generate) (Some n) (Some m) false = if is_count m then Some (Job.Generate n m) else None
-job_by (Some Task.Mix) (Some n) (Some m) false = if is_count m then Some (Job.Mix n m) else None
-job_by _ _ _ _ = None
-
--- nothing is awaited
-abbrev pub is_over : Awaits → Bool
-is_over Awaits.Nothing = true
-is_over Awaits.Seed = false
-is_over Awaits.Count = false
-
--- none where a word is wrong or a value is missing
-abbrev pub finished : Parts → Option Job
-finished p = if p.bad then None else if is_over p.awaits then job_by p.task p.seed p.count p.trace else None
-
--- The job that the words name, if they are a row of the table: `serial [--seed N] [--trace]`, `check`, `generate --seed N
--- --count M`, `mix --seed N --count M`, the options in any order, each at most once, a value in the next word or behind `=`.
-abbrev pub job_of : List (List ℕ) → Option Job
-job_of words = finished (parts_from none_yet words)
+-- The table, a row a job: `run [--trace]`, `serial [--seed N] [--trace]`, `check`, `generate --seed N --count M`, `mix --seed N
+-- --count M`.
+abbrev pub IsRow : List (List ℕ) → Job → Type 0
+IsRow words (Run trace) = Says words (Some Task.Run) None None trace
+IsRow words (Serial seed trace) = Says words (Some Task.Serial) seed None trace
+IsRow words Check = Says words (Some Task.Check) None None false
+IsRow words (Generate n m) = Says words (Some Task.Generate) (Some n) (Some m) false × (is_count m ≡ true)
+IsRow words (Mix n m) = Says words (Some Task.Mix) (Some n) (Some m) false × (is_count m ≡ true)

@@ -1,10 +1,14 @@
-ghost use Rattle.std.specs.Prelude.{◌≡◌, ◌≤◌, Option, drop, length, true};
-ghost use Rattle.iso_words.specs.Table.{texts};
-ghost use Rattle.iso_words.specs.Table.{begins, finished, is_count, is_over, is_word, job_by, job_of, none_yet, number, number_from, parts_from, spoilt, step, with_count, with_seed, with_task, with_trace, with_word};
+ghost use Rattle.std.specs.Prelude.{◌≡◌, ◌≤◌, ◌↔◌, Some, None, Option, drop, length, true};
+ghost use Rattle.iso_words.specs.Numbers.{is_count, number};
+ghost use Rattle.iso_words.specs.Scan.{begins, finished, is_over, is_word, job_by, none_yet, number_from, number_read, parts_from};
+ghost use Rattle.iso_words.specs.Scan.{spoilt, step, with_count, with_seed, with_task, with_trace, with_word};
+ghost use Rattle.iso_words.specs.Table.{IsRow, job_of, texts};
 
 /// What a run of the program is to do.
 #[derive(Clone, Copy, PartialEq, Eq)]
 pub enum Job {
+    /// Reads a script, runs it on threads, writes its transcript, with its trace behind it where `trace`.
+    Run { trace: bool },
     /// Reads a script, runs it on this thread, by the seed where there is one, and writes its transcript, with its trace behind it
     /// where `trace`.
     Serial { seed: Option<u64>, trace: bool },
@@ -19,6 +23,7 @@ pub enum Job {
 /// The word of a job.
 #[derive(Clone, Copy, PartialEq, Eq)]
 pub enum Task {
+    Run,
     Serial,
     Check,
     Generate,
@@ -65,6 +70,13 @@ fn begins(word: &[u8], front: &[u8]) -> bool
 // A number of 1 to 20 digits, below 2^64.
 fn number(text: &[u8]) -> Option<u64>
     ensures { result ≡ number text.now }
+{
+    read_number(text)
+}
+
+// The same, digit by digit; a number past the bound stays at it.
+fn read_number(text: &[u8]) -> Option<u64>
+    ensures { result ≡ number_read text.now }
 {
     if text.is_empty() || text.len() > 20 {
         return None;
@@ -171,7 +183,9 @@ impl Parts {
     fn with_word(self, word: &[u8]) -> Parts
         ensures { result ≡ with_word self word.now }
     {
-        if is_word(word, b"serial") {
+        if is_word(word, b"run") {
+            self.with_task(Task::Run)
+        } else if is_word(word, b"serial") {
             self.with_task(Task::Serial)
         } else if is_word(word, b"check") {
             self.with_task(Task::Check)
@@ -227,6 +241,7 @@ fn job_by(task: Option<Task>, seed: Option<u64>, count: Option<u64>, trace: bool
     ensures { result ≡ job_by task seed count trace }
 {
     match (task, seed, count, trace) {
+        (Some(Task::Run), None, None, _) => Some(Job::Run { trace }),
         (Some(Task::Serial), _, None, _) => Some(Job::Serial { seed, trace }),
         (Some(Task::Check), None, None, false) => Some(Job::Check),
         (Some(Task::Generate), Some(seed), Some(count), false) if is_count(count) => {
@@ -250,8 +265,8 @@ fn is_count(count: u64) -> bool
     1 <= count && count <= 10_000
 }
 
-/// The job that the words name; None exactly where they are no row of the table of jobs. It takes time for each byte of the words.
-pub fn read_words(words: &[String]) -> Option<Job>
+// The job that the words name, word by word.
+fn scanned(words: &[String]) -> Option<Job>
     ensures { result ≡ job_of (texts words.now) }
 {
     let mut parts = Parts::none_yet();
@@ -259,4 +274,14 @@ pub fn read_words(words: &[String]) -> Option<Job>
         parts = parts.step(word.as_bytes());
     }
     parts.finished()
+}
+
+/// The job that the words name by the table of jobs; None exactly where they are no row of it. It takes time for each byte of the
+/// words.
+pub fn read_words(words: &[String]) -> Option<Job>
+    ensures scanned { result ≡ job_of (texts words.now) }
+    ensures table { (job : Job) → (result ≡ Some job) ↔ IsRow (texts words.now) job }
+    ensures none { (result ≡ None) ↔ ((job : Job) → IsRow (texts words.now) job → ⊥) }
+{
+    scanned(words)
 }

@@ -2,7 +2,10 @@ use super::*;
 use std::test::Fail;
 
 // The words and the job that they name.
-const TABLE: [(&[&str], Option<Job>); 16] = [
+const TABLE: [(&[&str], Option<Job>); 21] = [
+    (&["run"], Some(Job::Run { trace: false })),
+    (&["run", "--trace"], Some(Job::Run { trace: true })),
+    (&["--trace", "run"], Some(Job::Run { trace: true })),
     (
         &["serial"],
         Some(Job::Serial {
@@ -50,6 +53,8 @@ const TABLE: [(&[&str], Option<Job>); 16] = [
     (&[], None),
     (&["serial", "--seed"], None),
     (&["run", "--seed", "1"], None),
+    (&["run", "--count", "2"], None),
+    (&["run", "serial"], None),
     (&["check", "--trace"], None),
     (&["mix", "--seed", "7"], None),
     (&["mix", "--seed", "7", "--count", "10001"], None),

@@ -2,6 +2,7 @@
 use Rattle.std.proofs.Common.{◌≡◌, ◌≤◌, ◌<◌, ◌+◌, ◌∷◌, ◌++◌, [], ℕ, Bool, true, false, ◌||◌, length, refl, ap, sym, ◌∙◌, arith, subst}
 use Rattle.std.specs.Prelude.{List, slice_set}
 use Rattle.std.proofs.Math.ListN.{length-set}
+use Rattle.iso_chain.proofs.Carries.{RowsMore, carried-more}
 use Rattle.iso_chain.specs.Stands.{AreChained, Chained}
 use Rattle.iso_history.proofs.limits.Limit.{needs-le}
 use Rattle.iso_history.proofs.limits.Pushed.{debt-pushed, needs-pushed}
@@ -123,6 +124,7 @@ change-room p c a old new log_new s kind al room push log =
 -- what a change has to show of what it writes: the slots, log and units, the pairs of the indexes, the lock list, and its desk
 pub record IsWritten (p : Content) (c : Conn) (a : Act) (k : Chained) (l : Ledger) (es : List (List (Value × Rid))) (d : Desk) (n : ℕ) : Type 0 where
   pub chain : AreChained (after p.head (world p.head p.history) (by_agent c a)) k
+  pub carried : RowsMore p.chain.log k.log a
   pub works : length k.book.works ≡ length p.chain.book.works
   pub entries : (after p.head (world p.head p.history) (by_agent c a)).entries ≡ es
   pub locks : LocksAre (after p.head (world p.head p.history) (by_agent c a)).holds (after p.head (world p.head p.history) (by_agent c a)).waits l
@@ -149,6 +151,7 @@ change-stands p c a k l es d n s al i =
         desks = desks-set (after p.head w (by_agent c a)) w p.desks c d i.desk (λ e x ne is. others-kept p.head w c a e x ne is) s.parts.desks;
         reserved = same-sum n p.reserved (reserves p.head w) _ _ _ i.reserved sums s.parts.reserved;
       });
+      carried = carried-more p.chain.log k.log p.history (by_agent c a) s.carried i.carried;
       conns = length-set p.desks c.0 d ∙ s.conns;
       works = i.works ∙ s.works;
       limits = record {
@@ -182,12 +185,12 @@ module _ (o p q : Parts) (k : Chained) (l : Ledger) (c : Conn) (a : Act) (s : St
       ready-allowed (content_of p) (Agent c) a 2 s.stands free-now (conn-is p.head c lt-now, by-now) b.refused (omega (arith, one, none)) ready.fits
 
   pub change-place : (es : List (List (Value × Rid))) → p.history.spare ≤ q.history.spare + 1 → debt_of p.units.works + 1 ≤ q.log.spare
-      → AreChained (after p.head (world_of p) (by_agent c a)) k → length k.book.works ≡ length p.units.works
+      → AreChained (after p.head (world_of p) (by_agent c a)) k → RowsMore p.log.records k.log a → length k.book.works ≡ length p.units.works
       → (after p.head (world_of p) (by_agent c a)).entries ≡ es
       → LocksAre (after p.head (world_of p) (by_agent c a)).holds (world_of p).waits l → IsSameLimits l p.locks
       → content_of q ≡ entered (record (content_of p) { chain = k; entries = es; locks = l; reserved = p.reserved + 1 }) c (by_agent c a)
       → StandsFor q
-  change-place es push log chain works entries are limits wrote =
+  change-place es push log chain carried works entries are limits wrote =
       let w = world_of p in
       let b = change-is p.head w c a kind in
       let one = b.more in
@@ -198,6 +201,7 @@ module _ (o p q : Parts) (k : Chained) (l : Ledger) (c : Conn) (a : Act) (s : St
             (calm-pace (content_of p).pace c a b.calm)
             (change-stands (content_of p) c a k l es (unclaimed (desk_at p.desks c)) (p.reserved + 1) s.stands change-allowed (record {
               chain = chain;
+              carried = carried;
               works = works;
               entries = entries;
               locks = rw b.waits are;

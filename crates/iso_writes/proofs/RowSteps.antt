@@ -5,6 +5,7 @@ use Rattle.std.specs.Prelude.{is_none, is_some}
 use Rattle.std.proofs.Math.ListN.{length-set}
 use Rattle.std.proofs.lemmas.List.{length-map}
 use Rattle.std.proofs.lemmas.Bool.Decides.{nat_tests}
+use Rattle.iso_chain.proofs.Carries.{one-row}
 use Rattle.iso_chain.proofs.Kept.{may-insert, may-update}
 use Rattle.iso_chain.proofs.Write.{insert-chained, update-chained}
 use Rattle.iso_chain.specs.Writes.{inserted, written}
@@ -76,6 +77,7 @@ relocked-place p q s are limits wrote room =
     subst (λ (x : Content). HasPlace x q.history.spare q.log.spare) (sym wrote) (record {
       stands = record {
         parts = record { chain = s.parts.chain; entries = s.parts.entries; locks = are; desks = s.parts.desks; reserved = s.parts.reserved; pace = s.parts.pace };
+        carried = s.carried;
         conns = s.conns;
         works = s.works;
         limits = record {
@@ -132,6 +134,7 @@ module _ (o p n q : Parts) (c : Conn) (t : TableId) (r : Rid) (row : List Value)
       (with_keys p.head t r row (length p.head.indexes - 0) 0 (content_of p).entries) history-left log-left
       (insert-chained p.head (world_of p) (content_of p).chain c t r row s.parts.chain (kept-of s.stands) (work-there s.stands c now)
       (may-insert p.head (world_of p) (sound-of s.stands) c t r row al))
+      (one-row p.log.records _ (Insert t r row) refl)
       (length-set p.units.works c.0 _)
       (keyed (content_of p) s.stands t r row)
       (insert-holds p.head (world_of p) c t row r n.locks are)
@@ -154,6 +157,7 @@ module _ (o p n q : Parts) (c : Conn) (t : TableId) (r : Rid) (row : List Value)
       (with_keys p.head t r row (length p.head.indexes - 0) 0 (content_of p).entries) history-left log-left
       (update-chained p.head (world_of p) (content_of p).chain c t r row s.parts.chain (kept-of s.stands) (work-there s.stands c now)
       (may-update p.head (world_of p) (sound-of s.stands) c t r row (log_sound-of s.stands) al))
+      (one-row p.log.records _ (Update t r row) refl)
       (length-set p.units.works c.0 _)
       (keyed (content_of p) s.stands t r row)
       (update-holds p.head (world_of p) c t row r n.locks are)

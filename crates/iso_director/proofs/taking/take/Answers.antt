@@ -1,12 +1,13 @@
-use Rattle.std.proofs.Common.{◌≡◌, ◌∙◌, sym, subst, true, false, Option}
+use Rattle.std.proofs.Common.{◌≡◌, ◌∙◌, ap, sym, subst, true, false, Option}
 use Rattle.iso_conduct.specs.Pacing.{MayHalt, line_step}
 use Rattle.iso_director.proofs.Halts.{halt-stands, none-purged, purge-halts, purged-pair}
 use Rattle.iso_director.proofs.Leads.{moved}
-use Rattle.iso_director.proofs.Lines.{due-line, may-none}
+use Rattle.iso_director.proofs.Lines.{due-line, may-none, may-purged}
 use Rattle.iso_director.specs.Turns.{HasLineTaken, due_step}
 use Rattle.iso_history.specs.After.{world}
 use Rattle.iso_history.specs.Legal.{Ground}
 use Rattle.iso_history.specs.Stops.{may_halt}
+use Rattle.iso_history.specs.World.{Pace}
 use Rattle.iso_history.specs.declared.entry.Act.{Act}
 use Rattle.iso_history.specs.declared.entry.Cause.{Cause}
 use Rattle.iso_pace.specs.Answers.{MayTakeLine}
@@ -15,23 +16,26 @@ use Rattle.iso_types.specs.declared.head.Head.{Head}
 use Rattle.iso_director.proofs.taking.take.Goals as goal
 
 pub take_line-requires-clause-may : goal.take_line-requires-clause-may
-take_line-requires-clause-may c = c.needs_no_purge.ensures.may c.if-needs_no_purge.true
+take_line-requires-clause-may c =
+    may-purged c.args.parts.now.head (world_of c.args.parts.now) (ap (λ (q : Pace). q.purged) (sym c.requires.stands.parts.pace) ∙ c.if-parts.true)
 
-pub returns-then-needs_no_purge-clause-taken : goal.returns-then-needs_no_purge-clause-taken
-returns-then-needs_no_purge-clause-taken c =
+pub returns-then-parts-clause-taken : goal.returns-then-parts-clause-taken
+returns-then-parts-clause-taken c =
     let p = c.args.parts.now in
     let l = c.args.line.now in
     subst (λ (o : Option Act). HasLineTaken p.head (world_of p) o p.history.items c.take_line.new.parts.history.items c.take_line.result)
-    (due-line p.head (world_of p) l (c.needs_no_purge.ensures.may c.if-needs_no_purge.true) c.requires.going) c.take_line.ensures.taken
+    (due-line p.head (world_of p) l
+    (may-purged p.head (world_of p) (ap (λ (q : Pace). q.purged) (sym c.requires.stands.parts.pace) ∙ c.if-parts.true)) c.requires.going)
+    c.take_line.ensures.taken
 
 pub purge-requires-clause-calm : goal.purge-requires-clause-calm
-purge-requires-clause-calm c = c.needs_no_purge.ensures.calm c.if-needs_no_purge.false
+purge-requires-clause-calm c = ap (λ (q : Pace). q.purged) (sym c.requires.stands.parts.pace) ∙ c.if-parts.false
 
 pub returns-in-Ok-true-clause-taken : goal.returns-in-Ok-true-clause-taken
 returns-in-Ok-true-clause-taken c =
     let p = c.args.parts.now in
     let q = c.purge.new.parts in
-    let calm = c.needs_no_purge.ensures.calm c.if-needs_no_purge.false in
+    let calm = ap (λ (q : Pace). q.purged) (sym c.requires.stands.parts.pace) ∙ c.if-parts.false in
     purged-pair p.head p.history.items q.history.items c.args.line.now calm (sym c.in-Ok-true.ensures.answer ∙ c.in-Ok-true.field-0-test) c.in-Ok-true.ensures.ok
     (subst (λ (h : Head). Ground h q.history.items) c.purge.ensures.head c.purge.ensures.stands.ground)
 
@@ -79,7 +83,7 @@ stopped-requires-clause-may c =
     let p = c.args.parts.now in
     let l = c.args.line.now in
     let cause = c.cause_of.result in
-    let calm = c.needs_no_purge.ensures.calm c.if-needs_no_purge.false in
+    let calm = ap (λ (q : Pace). q.purged) (sym c.requires.stands.parts.pace) ∙ c.if-parts.false in
     let may : MayHalt p.head (world_of p) (due_step p.head (world_of p) l) cause =
     subst (λ (x : Cause). MayHalt p.head (world_of p) (due_step p.head (world_of p) l) x) (sym c.cause_of.ensures)
     (purge-halts p.head p.history.items c.purge.new.parts.history.items l calm c.in-Err.fault c.in-Err.ensures.due c.in-Err.ensures.full) in

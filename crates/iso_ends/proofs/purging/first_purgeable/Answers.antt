@@ -1,4 +1,4 @@
-use Rattle.std.proofs.Common.{◌∙◌, ap, find, sym}
+use Rattle.std.proofs.Common.{◌∙◌, sym}
 use Rattle.iso_history.specs.Entries.{is_purgeable}
 use Rattle.iso_state.specs.Stands.{world_of}
 use Rattle.iso_ends.proofs.PageWalks.{page-found, page-passed}
@@ -9,7 +9,7 @@ returns-in-Some-first_in c =
     let p = c.args.parts.now in
     let t = is_purgeable p.head (world_of p) c.args.index in
     sym (page-found t c.args.keys.now c.loop-page.at c.in-Some.page.now c.in-Some-first_in.pair (sym c.in-Some.ensures.some) c.loop-page.invariant
-    (sym c.first_in.ensures ∙ c.in-Some-first_in.is)) ∙ ap (find t) c.requires.keys
+    (sym c.first_in.ensures ∙ c.in-Some-first_in.is))
 
 pub loop-page-preserved : goal.loop-page-preserved
 loop-page-preserved c =

@@ -1,8 +1,6 @@
-use Rattle.std.proofs.Common.{◌∙◌, List, ap, find, is_some, sym}
+use Rattle.std.proofs.Common.{◌∙◌, sym}
 use Rattle.iso_ends.specs.Purges.{is_stale_at}
 use Rattle.iso_state.specs.Stands.{world_of}
-use Rattle.iso_types.specs.declared.value.Rid.{Rid}
-use Rattle.iso_types.specs.declared.value.Value.{Value}
 use Rattle.iso_ends.proofs.PageWalks.{page-some, page-unfound}
 use Rattle.iso_ends.proofs.staleness.has_stale_pair.Goals as goal
 
@@ -11,7 +9,7 @@ returns-then-has_stale_page c =
     let p = c.args.parts.now in
     let t = is_stale_at p.head (world_of p) c.args.index in
     sym (page-some t c.args.keys.now c.loop-page.at c.in-Some.page.now (sym c.in-Some.ensures.some) c.loop-page.invariant
-    (sym c.has_stale_page.ensures ∙ c.if-has_stale_page.true)) ∙ ap (λ (ps : List (Value × Rid)). is_some (find t ps)) c.requires.keys
+    (sym c.has_stale_page.ensures ∙ c.if-has_stale_page.true))
 
 pub loop-page-preserved : goal.loop-page-preserved
 loop-page-preserved c =

@@ -1,5 +1,4 @@
 use Rattle.std.proofs.Common.{inr}
-use Rattle.iso_engine.proofs.Outcomes.{refusal-outcome, refusal-text}
 use Rattle.iso_engine.proofs.job.tell_bytes.Goals as goal
 
 pub returns-in-Ok-clause-outcome : goal.returns-in-Ok-clause-outcome

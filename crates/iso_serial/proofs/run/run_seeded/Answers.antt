@@ -16,7 +16,8 @@ draws-init c =
     record {
       stands = c.requires.stands;
       head = refl;
-      taken = first-taken script es c.new-director.result c.requires.none c.new-director.ensures.taken c.new-director.ensures.fresh;
+      taken = first-taken script es c.new-director.result c.requires.none c.new-director.ensures.taken
+          c.new-director.ensures.kept c.new-director.ensures.acyclic;
       rested = c.requires.rested;
       drawn = subst (λ (g : Lcg). IsDrawn script (seeded c.args.seed) es g) (sym c.generator-words.ensures)
           (drawn-first script (seeded c.args.seed) es c.requires.none);

@@ -13,7 +13,8 @@ use Rattle.iso_serial.proofs.run.run_turns.Goals as goal
 
 pub take_first_turn-requires-clause-taken : goal.take_first_turn-requires-clause-taken
 take_first_turn-requires-clause-taken c =
-    first-taken c.args.script.now c.args.parts.now.history.items c.new-director.result c.requires.none c.new-director.ensures.taken c.new-director.ensures.fresh
+    first-taken c.args.script.now c.args.parts.now.history.items c.new-director.result c.requires.none c.new-director.ensures.taken
+    c.new-director.ensures.kept c.new-director.ensures.acyclic
 
 pub turns-init : goal.turns-init
 turns-init c =

@@ -8,7 +8,7 @@ loop-init g c = record {
   pass = c.requires.pass;
   keep = c.requires.keep;
   taken = first-taken c.args.script.now (seen_of c.args.pass.seat) c.new-director.result c.requires.none c.new-director.ensures.taken
-      c.new-director.ensures.fresh;
+      c.new-director.ensures.kept c.new-director.ensures.acyclic;
   all = c.requires.all;
   empty = c.requires.empty;
   room = c.requires.room;

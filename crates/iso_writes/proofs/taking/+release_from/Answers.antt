@@ -1,10 +1,11 @@
 use Rattle.std.proofs.Common.{◌+◌, List, drop, subst}
-use Rattle.iso_locklist.proofs.NewNames.{asks_from, back, still_new}
+use Rattle.iso_locklist.proofs.NewNames.{asks_from, still_new}
 use Rattle.iso_locklist.specs.Holding.{AreNew, LocksAre, all_added, line_of}
 use Rattle.iso_locklist.specs.Lists.{asked_for}
 use Rattle.iso_locklist.specs.declared.places.Asking.{Asking}
 use Rattle.iso_modes.specs.declared.Term.TheVariants.{Kept}
 use Rattle.iso_queue.specs.Locks.{added}
+use Rattle.iso_writes.proofs.GivenBack.{back}
 use Rattle.iso_writes.proofs.taking.+release_from.Goals as goal
 
 pub returns-then-at-asks-clause-lists : goal.returns-then-at-asks-clause-lists

@@ -1,5 +1,6 @@
 use Rattle.std.proofs.Common.{◌≡◌, ◌+◌, ◌∙◌, ap, arith, refl, sym, subst, None}
 use Rattle.std.proofs.Math.ListN.{length-set}
+use Rattle.iso_chain.proofs.Carries.{one-row}
 use Rattle.iso_chain.proofs.Kept.{may-delete}
 use Rattle.iso_chain.proofs.Write.{delete-chained}
 use Rattle.iso_chain.specs.Writes.{written}
@@ -37,7 +38,7 @@ returns-clause-stands c =
     (content_of p).entries (omega (arith, room.history, spends.history)) (omega (arith, room.log, spends.log))
     (delete-chained p.head (world_of p) (content_of p).chain c.args.conn c.args.table c.args.rid s.parts.chain (kept-of s.stands)
     (work-there s.stands c.args.conn lt) (may-delete p.head (world_of p) (sound-of s.stands) c.args.conn c.args.table c.args.rid (log_sound-of s.stands) al))
-    (length-set p.units.works c.args.conn.0 _) (sym s.parts.entries)
+    (one-row p.log.records _ a refl) (length-set p.units.works c.args.conn.0 _) (sym s.parts.entries)
     (c.settle.ensures.lists (world_of p).holds (world_of p).waits
     (subst (λ (x : Ledger). LocksAre (world_of p).holds (world_of p).waits x) (sym locks) s.parts.locks))
     (subst (λ (x : Ledger). IsSameLimits l x) locks c.settle.ensures.limits)

@@ -2,9 +2,9 @@ use Rattle.std.proofs.Common.{◌≡◌, List, refl, subst, sym, true}
 use Rattle.std.specs.List.{list_all}
 use Rattle.iso_agent.proofs.ScansAlong.{point-sound}
 use Rattle.iso_agent.proofs.Turning.{ended-leaves, made-at, stepped-leaves, stops-made}
-use Rattle.iso_agent.specs.Steps.{HasStepped, act_due}
+use Rattle.iso_agent.specs.Steps.{HasStepped, IsUntold, act_due, keeps_pin}
 use Rattle.iso_agent.specs.Turns.{Leaves}
-use Rattle.iso_conduct.specs.Conduct.{MayIn, point}
+use Rattle.iso_conduct.specs.Conduct.{MayIn, point, ready}
 use Rattle.iso_history.specs.After.{world}
 use Rattle.iso_history.specs.Legal.{By, Ground}
 use Rattle.iso_history.specs.Phases.{phase}
@@ -84,3 +84,12 @@ returns-in-Over-clause-leaves c =
     let ground = subst (λ h. Ground h m.history.items) c.step_due.ensures.head c.step_due.ensures.stands.stands.ground in
     ended-leaves p.head lines p.history.items conn c.args.task c.requires.stands.stands.ground c.requires.conduct c.requires.goes c.requires.ready
     m.history.items ground stepped
+
+pub returns-in-Goes-clause-untold : goal.returns-in-Goes-clause-untold
+returns-in-Goes-clause-untold c =
+    let p = c.args.parts.now in
+    let conn = c.args.self.now.conn in
+    let lines = c.args.script.now.lines in
+    subst (λ t. IsUntold p.head (world_of p) conn (ready p.head lines (world_of p) conn (point p.head lines p.history.items conn)) (Some t) c.in-Goes.kept)
+    (sym (c.in-Goes.ensures.same refl))
+    (c.requires.ready, λ e. subst (λ s. keeps_pin s ≡ true) c.in-Goes.is (c.step_due.ensures.pinned e))

@@ -1,4 +1,4 @@
-use Rattle.std.proofs.Common.{◌≡◌, ◌∙◌, ◌<◌, ℕ, Bool, true, false, ap, arith, subst, sym}
+use Rattle.std.proofs.Common.{◌≡◌, ◌∙◌, ◌∷◌, ◌++◌, [], List, ◌<◌, ℕ, Bool, true, false, ap, arith, subst, sym}
 use Rattle.std.specs.Prelude.{if◌then◌else◌}
 use Rattle.iso_lines.specs.Locks.{counts_below}
 use Rattle.iso_locklist.specs.Lists.{IsAsked, grants_in}
@@ -7,8 +7,9 @@ use Rattle.iso_locklist.specs.declared.room.Room.{Room}
 use Rattle.iso_locklist.specs.declared.room.Room.TheVariants.{Free}
 use Rattle.iso_locklist.proofs.AskedLists.{asked_lists}
 use Rattle.iso_locklist.proofs.Holding.{asked_are, grants_shown}
-use Rattle.iso_locklist.proofs.Registered.{mode_touched, places_apart, places_line, room_more, summed_in}
+use Rattle.iso_locklist.proofs.Registered.{mode_touched, names_in, places_apart, places_line, room_more, summed_in}
 use Rattle.iso_queue.specs.Lines.{Line, asked, has_mode, is_granted, is_touched}
+use Rattle.iso_types.specs.declared.value.Name.{Name}
 use Rattle.iso_queue.specs.declared.types.Asked.{Asked}
 use Rattle.iso_locklist.proofs.list.LockList.request_at.Goals as goal
 
@@ -63,3 +64,11 @@ returns-clause-lists c = λ hs xs are idle.
     (grants_in hs xs c.args.conn c.args.name.now c.args.mode)
     (subst (λ (b : Bool). IsAsked b old new c.args.conn c.args.name.now c.args.mode c.args.term) told lists) in
     record { granted_are = both.0; queued_are = both.1 }
+
+pub returns-clause-names : goal.returns-clause-names
+returns-clause-names c = λ empty.
+    let old = c.self.inside.register.lines in
+    let new = c.request.new.self.lines in
+    names_in new
+    ∙ c.in-Ok.ensures.names (sym (places_line old c.args.name.now) ∙ ap (λ (l : Ledger). line_at l.places c.args.name.now) c.self.view_is ∙ empty)
+    ∙ ap (λ (ns : List Name). ns ++ c.args.name.now ∷ []) (sym (names_in old) ∙ ap (λ (l : Ledger). names l.places) c.self.view_is)

@@ -1,7 +1,0 @@
-use Rattle.std.proofs.Common.{◌≡◌, drop}
-use Rattle.iso_words.specs.Table.{texts}
-use Rattle.iso_words.specs.Table.{none_yet, parts_from}
-use Rattle.iso_words.proofs.parts.read_words.Given as goal
-
-abbrev pub invariant-loop-word : goal.invariant-loop-word
-invariant-loop-word l = parts_from l.parts (texts (drop l.word-index l.words)) ≡ parts_from none_yet (texts l.words)
