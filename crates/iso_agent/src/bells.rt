@@ -1,7 +1,8 @@
 //! Bells: a place for each connection, then one for the dispatcher.
 ghost use Rattle.std.specs.Prelude.{◌≡◌, ◌+◌, ◌<◌, IfOk, vec_len};
 
-use iso_types::Memory;
+use crate::wakes::Wakes;
+use iso_types::{Conn, Memory};
 use std::alloc::Global;
 use std::sync::{Condvar, Mutex, Wait};
 
@@ -29,6 +30,16 @@ impl Bell {
     }
 }
 
+impl Wakes {
+    /// Whether the bell at a place is meant: the dispatcher's, the last, or that of a connection.
+    fn means(self, at: usize, last: usize) -> bool {
+        if at >= last {
+            return self.leads;
+        }
+        at < 32 && self.conns.has(Conn(at as u8))
+    }
+}
+
 impl Bells {
     /// A place for each connection, then one for the dispatcher.
     pub fn new(alloc: Global, conns: u8) -> Result<Bells, Memory>
@@ -49,6 +60,16 @@ impl Bells {
     pub fn ring<R: Wait>(&self, rt: &R) {
         for bell in self.places.as_slice() {
             bell.ring(rt);
+        }
+    }
+
+    /// Rings at the places of those who are meant; the dispatcher's is the last. No memory. It may wait. (This project's own.)
+    pub fn ring_for<R: Wait>(&self, rt: &R, wakes: Wakes) {
+        let bells = self.places.as_slice();
+        for at in 0..bells.len() {
+            if wakes.means(at, bells.len() - 1) {
+                bells[at].ring(rt);
+            }
         }
     }
 

@@ -14,9 +14,11 @@ mod step;
 mod stepped;
 mod telling;
 mod turn;
+mod wakes;
 mod ways;
 mod writes;
 
 pub use agent::{Agent, Kept, Turned};
 pub use bells::Bells;
 pub use laws::agents_rest;
+pub use wakes::{Wakes, able_in};

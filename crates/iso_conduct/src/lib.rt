@@ -6,8 +6,10 @@ mod copies;
 mod course;
 mod laws;
 mod moves;
+mod stages;
 mod start;
 mod task;
+mod telling;
 
 pub use laws::{
     finished_is_whole, finished_takes_all_lines, legal_histories_are_guarded, one_entry_is_next,

@@ -14,7 +14,7 @@ ghost use Rattle.iso_state.specs.Stands.{StandsFor, world_of};
 ghost use Rattle.iso_types.specs.declared.desk.Phase.TheVariants as Phases;
 
 use crate::director::Director;
-use iso_ends::purgeable;
+use iso_ends::purgeable_among;
 use iso_pace::quiet;
 use iso_script::{Line, Script, What};
 use iso_state::{Parts, can_claim, desk_of};
@@ -133,7 +133,7 @@ impl Director {
         if parts.pace.purged {
             return false;
         }
-        purgeable(parts, &mut self.doubts)
+        purgeable_among(parts, &mut self.doubts)
     }
 
     /// Whether the next line can be taken, or a pair purged before it.
@@ -158,7 +158,7 @@ impl Director {
 
     /// Whether `make` would make an entry. Nothing is appended. It looks at the next line alone, and asks the state what `make`
     /// asks: a circle is sought, as by `cyclic`, only where an entry has queued since there was none, quiet as by `quiet`, and a
-    /// purgeable pair as by `purgeable`. (This project's own.)
+    /// purgeable pair as by `purgeable_among`. (This project's own.)
     pub fn able(&mut self, script: &Script, parts: &Parts) -> bool
         requires stands { StandsFor parts.now }
         requires head { parts.now.head ≡ script.now.head }

@@ -9,7 +9,7 @@ ghost use Rattle.iso_pace.specs.Answers.{MayTakeLine, is_taken as is_done};
 ghost use Rattle.iso_script.specs.declared.script.What.TheVariants as Asks;
 ghost use Rattle.iso_state.specs.Stands.{StandsFor, content_of, world_of};
 
-use iso_ends::{Doubts, purge, stopped};
+use iso_ends::{Doubts, purge_among, stopped};
 use iso_history::{Cause, Who};
 use iso_pace::{Paced, dispatch, expire, snapshot};
 use iso_script::{Line, What};
@@ -193,7 +193,7 @@ fn take_line(parts: &mut Parts, line: &Line) -> Taken
 
 /// Purges a pair, where one is purgeable and the dispatcher's last entry is no purge; else takes a line, where its step may be
 /// made. Where there is want of memory or of room in the history the dispatcher stops in place of either. It looks at this line
-/// alone, at the pairs of the indexes as `purge` does, and asks the lock list once for each connection at most.
+/// alone, at the pairs of the indexes as `purge_among` does, and asks the lock list once for each connection at most.
 pub(crate) fn take(parts: &mut Parts, line: &Line, doubts: &mut Doubts) -> Taken
     requires stands { StandsFor parts.old }
     requires open { (world_of parts.old).pace.finished ≡ false }
@@ -209,7 +209,7 @@ pub(crate) fn take(parts: &mut Parts, line: &Line, doubts: &mut Doubts) -> Taken
     if parts.pace.purged {
         return take_line(parts, line);
     }
-    match purge(parts, doubts) {
+    match purge_among(parts, doubts) {
         Ok(true) => Taken::Pair,
         Ok(false) => take_line(parts, line),
         Err(fault) => {

@@ -14,6 +14,7 @@ use crate::freshness::fresh_until;
 use crate::purging::first_purgeable;
 use crate::reading::{unknown, update};
 use crate::staleness::has_stale_pair;
+use crate::walking::least_in_all;
 use iso_key::KeyIndex;
 use iso_state::Parts;
 use iso_types::{IndexDef, IndexId, Items, Rid, Value};
@@ -39,21 +40,6 @@ fn widen(alloc: Global, sets: &mut Items<Doubt>, parts: &Parts)
             Err(_) => return,
         }
     }
-}
-
-/// The least purgeable pair of an index, among all of its pairs.
-fn least_in_all(
-    parts: &Parts,
-    index: IndexId,
-    def: &IndexDef,
-    keys: &KeyIndex,
-) -> Option<(Value, Rid)>
-    requires stands { StandsFor parts.now }
-    requires def { slice_get parts.now.head.indexes index.0 ≡ Some def.now }
-    requires keys { entries keys.now ≡ entries_of (world_of parts.now) index }
-    ensures { result ≡ find (is_purgeable parts.now.head (world_of parts.now) index) (entries_of (world_of parts.now) index) }
-{
-    first_purgeable(parts, index, def, keys)
 }
 
 /// The least purgeable pair of an index, among the doubtful ones.

@@ -14,12 +14,13 @@ mod settling;
 mod staleness;
 mod stopping;
 mod undoing;
+mod walking;
 
 pub use answers::{reply, set};
 pub use doubt::Doubt;
 pub use doubts::Doubts;
 pub use ending::{commit, ended, rollback_end};
-pub use purging::{purge, purgeable};
+pub use purging::{purge, purge_among, purgeable, purgeable_among};
 pub use savepoints::{back, mark};
 pub use staleness::{no_fresh_pair_is_purged, pairs_stay_fresh};
 pub use stopping::stopped;

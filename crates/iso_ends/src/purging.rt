@@ -17,6 +17,7 @@ ghost use Rattle.iso_state.specs.Stands.{StandsFor, content_of, world_of};
 ghost use Rattle.iso_types.specs.declared.value.Name.TheVariants as Names;
 
 use crate::doubts::Doubts;
+use crate::walking::least_in_parts;
 use iso_history::{Act, Entry, Who};
 use iso_key::KeyIndex;
 use iso_state::{Parts, make_room, note};
@@ -214,12 +215,56 @@ fn purge_pair(parts: &mut Parts, index: IndexId, key: &Value, rid: Rid) -> Resul
     Ok(())
 }
 
+/// Purges this pair, the least purgeable one, where there is one.
+fn purge_least(parts: &mut Parts, least: Option<(IndexId, (Value, Rid))>) -> Result<bool, StepFault>
+    requires stands { StandsFor parts.old }
+    requires open { (world_of parts.old).pace.finished ≡ false }
+    requires going { (world_of parts.old).pace.stopped ≡ false }
+    requires calm { (world_of parts.old).pace.purged ≡ false }
+    requires least { least ≡ least_purgeable parts.old.head (world_of parts.old) }
+    ensures stands { StandsFor parts.new }
+    ensures head { parts.new.head ≡ parts.old.head }
+    ensures answer { IfOk result (λ b. b ≡ is_some (least_purgeable parts.old.head (world_of parts.old))) }
+    ensures full { result ≡ Err StepFault.HistoryFull
+        → option_map_or (λ p. is_full parts.old.head (world_of parts.old) (by_dispatcher (purge_of p))) (least_purgeable parts.old.head (world_of parts.old)) false ≡ true }
+    ensures ok { OnOk result (parts.new.history.items ≡ parts.old.history.items ++ purging (least_purgeable parts.old.head (world_of parts.old))) }
+    ensures err { OnErr result (content_of parts.new ≡ content_of parts.old) }
+    ensures due { OnErr result (is_some (least_purgeable parts.old.head (world_of parts.old)) ≡ true) }
+{
+    match least {
+        Some((index, pair)) => {
+            purge_pair(parts, index, &pair.0, pair.1)?;
+            Ok(true)
+        }
+        None => Ok(false),
+    }
+}
+
 /// Purges the least purgeable pair, by index, key and rid: one whose slot has no pending version, whose committed row is not
 /// there or has another key, and the name of whose key nobody holds or awaits. False, and nothing recorded, exactly where there
 /// is none. `HistoryFull`: its entry would be full. A fault comes only where there is such a pair, and leaves all as it was. It
-/// looks at as many pairs as `Doubts::least`. Db2 LUW, 'Index cleanup and maintenance'; when pairs are purged is this project's
-/// own.
-pub fn purge(parts: &mut Parts, doubts: &mut Doubts) -> Result<bool, StepFault>
+/// looks at each pair up to that one; `purge_among` needs to look at fewer. Db2 LUW, 'Index cleanup and maintenance'; when pairs
+/// are purged is this project's own.
+pub fn purge(parts: &mut Parts) -> Result<bool, StepFault>
+    requires stands { StandsFor parts.old }
+    requires open { (world_of parts.old).pace.finished ≡ false }
+    requires going { (world_of parts.old).pace.stopped ≡ false }
+    requires calm { (world_of parts.old).pace.purged ≡ false }
+    ensures stands { StandsFor parts.new }
+    ensures head { parts.new.head ≡ parts.old.head }
+    ensures answer { IfOk result (λ b. b ≡ is_some (least_purgeable parts.old.head (world_of parts.old))) }
+    ensures full { result ≡ Err StepFault.HistoryFull
+        → option_map_or (λ p. is_full parts.old.head (world_of parts.old) (by_dispatcher (purge_of p))) (least_purgeable parts.old.head (world_of parts.old)) false ≡ true }
+    ensures ok { OnOk result (parts.new.history.items ≡ parts.old.history.items ++ purging (least_purgeable parts.old.head (world_of parts.old))) }
+    ensures err { OnErr result (content_of parts.new ≡ content_of parts.old) }
+    ensures due { OnErr result (is_some (least_purgeable parts.old.head (world_of parts.old)) ≡ true) }
+{
+    let least = least_in_parts(parts);
+    purge_least(parts, least)
+}
+
+/// As `purge`, and looks at as many pairs as `Doubts::least`. (This project's own.)
+pub fn purge_among(parts: &mut Parts, doubts: &mut Doubts) -> Result<bool, StepFault>
     requires stands { StandsFor parts.old }
     requires open { (world_of parts.old).pace.finished ≡ false }
     requires going { (world_of parts.old).pace.stopped ≡ false }
@@ -235,17 +280,20 @@ pub fn purge(parts: &mut Parts, doubts: &mut Doubts) -> Result<bool, StepFault>
     ensures err { OnErr result (content_of parts.new ≡ content_of parts.old) }
     ensures due { OnErr result (is_some (least_purgeable parts.old.head (world_of parts.old)) ≡ true) }
 {
-    match doubts.least(parts) {
-        Some((index, pair)) => {
-            purge_pair(parts, index, &pair.0, pair.1)?;
-            Ok(true)
-        }
-        None => Ok(false),
-    }
+    let least = doubts.least(parts);
+    purge_least(parts, least)
 }
 
-/// Whether a pair is purgeable: whether `purge` would find one. It looks at as many pairs.
-pub fn purgeable(parts: &Parts, doubts: &mut Doubts) -> bool
+/// Whether a pair is purgeable: whether `purge` would find one. It looks at each pair up to that one, and takes no memory.
+pub fn purgeable(parts: &Parts) -> bool
+    requires stands { StandsFor parts.now }
+    ensures { result ≡ is_some (least_purgeable parts.now.head (world_of parts.now)) }
+{
+    least_in_parts(parts).is_some()
+}
+
+/// As `purgeable`, and looks at as many pairs as `Doubts::least`. (This project's own.)
+pub fn purgeable_among(parts: &Parts, doubts: &mut Doubts) -> bool
     requires stands { StandsFor parts.now }
     requires kept { AreKept parts.now.head parts.now.history.items doubts.old }
     ensures kept { AreKept parts.now.head parts.now.history.items doubts.new }

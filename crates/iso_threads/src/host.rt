@@ -8,20 +8,22 @@ ghost use Rattle.iso_script.specs.Sound.{IsSound};
 ghost use Rattle.iso_threads.specs.Kept.{AllKeep};
 ghost use Rattle.iso_threads.specs.Passes.{IsHostPass};
 
+use iso_agent::{Wakes, able_in};
 use iso_director::{Director, Led};
 use iso_latch::{Latch, Pass};
 use iso_script::Script;
 use iso_state::State;
 use std::sync::Wait;
 
-/// One hold of the latch with at most one entry of the dispatcher. It may wait. Its cost is that of a hold and of `make`.
+/// One hold of the latch with at most one entry of the dispatcher, and whom that has made able. It may wait. Its cost is that of a
+/// hold and of `make`, and of `able_in` twice.
 pub fn lead_once<R: Wait>(
     director: &mut Director,
     rt: &R,
     latch: &Latch<State>,
     pass: Pass<State>,
     script: &Script,
-) -> (Pass<State>, Led)
+) -> (Pass<State>, Led, Wakes)
     requires sound { IsSound script.now }
     requires pass { IsHostPass latch.now.table.shared.table_id script.now pass }
     requires keep { AllKeep script.now (voices_of pass.seat) (seen_of pass.seat) }
@@ -34,6 +36,8 @@ pub fn lead_once<R: Wait>(
 {
     let (turn, state) = latch.enter(rt, pass);
     let mut parts = state.into_parts();
+    let before = able_in(&parts);
     let led = director.make(script, &mut parts);
-    (latch.leave(turn, parts.into_state()), led)
+    let wakes = Wakes::led(before, able_in(&parts));
+    (latch.leave(turn, parts.into_state()), led, wakes)
 }

@@ -10,7 +10,7 @@ ghost use Rattle.iso_threads.specs.Passes.{IsHostPass};
 
 use crate::backs::{Back, Driven, turn_all};
 use crate::host::lead_once;
-use iso_agent::Bells;
+use iso_agent::{Bells, Wakes};
 use iso_director::{Director, Led};
 use iso_latch::{Latch, Pass};
 use iso_script::Script;
@@ -19,6 +19,16 @@ use iso_types::Gate;
 use std::alloc::Global;
 use std::sync::Wait;
 use std::thread::{PromisedHandle, Threads};
+
+/// Rings behind a turn of the dispatcher's thread: for those whom the dispatcher's entry has made able; for all where agents of its
+/// thread made entries, too.
+fn ring_after<R: Wait>(rt: &R, bells: &Bells, wakes: Wakes, ran: bool) {
+    if ran {
+        bells.ring(rt);
+    } else {
+        bells.ring_for(rt, wakes);
+    }
+}
 
 /// The dispatcher's turns, and after each of them one of each agent that no thread drives, until the history has finished; where
 /// none of these made an entry, it rests at its place until another did. Memory is taken by the agents' turns, and for what the
@@ -54,13 +64,13 @@ pub fn lead<R: Wait, G: Gate>(
     let mut here = here;
     let mut there = there;
     for _ in rt.forever() {
-        let (next, led) = lead_once(&mut director, rt, latch, pass, script);
+        let (next, led, wakes) = lead_once(&mut director, rt, latch, pass, script);
         pass = next;
         let (first, second, ran) = turn_all(rt, alloc, latch, script, gate, here, there);
         here = second;
         there = first;
         match led {
-            Led::Ran => bells.ring(rt),
+            Led::Ran => ring_after(rt, bells, wakes, ran),
             Led::Rests => {
                 if ran {
                     bells.ring(rt);

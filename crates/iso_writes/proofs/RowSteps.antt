@@ -123,7 +123,7 @@ module _ (o p n q : Parts) (c : Conn) (t : TableId) (r : Rid) (row : List Value)
       (key_asks p.head (world_of p) c t row (length p.head.indexes) 0))) c
       (settled c None (all_added (world_of p).holds c (cons_option (row_ask p.head (world_of p) c t r)
       (key_asks p.head (world_of p) c t row (length p.head.indexes) 0))))) (world_of p).waits n.locks
-      → content_of n ≡ relocked (written_at (content_of p) c NewSlot t r row 0) n.locks
+      → content_of n ≡ relocked (written_at (content_of p) c NewSlot t r row (0)) n.locks
       → content_of q ≡ entered (record (content_of n) { reserved = n.reserved + 1 }) c (by_agent c (Insert t r row))
       → StandsFor q
   insert-place by are wrote entry =
@@ -146,7 +146,7 @@ module _ (o p n q : Parts) (c : Conn) (t : TableId) (r : Rid) (row : List Value)
       (key_asks p.head (world_of p) c t row (length p.head.indexes) 0))) c
       (settled c None (all_added (world_of p).holds c (cons_option None
       (key_asks p.head (world_of p) c t row (length p.head.indexes) 0))))) (world_of p).waits n.locks
-      → content_of n ≡ relocked (written_at (content_of p) c Slot t r row 0) n.locks
+      → content_of n ≡ relocked (written_at (content_of p) c Slot t r row (0)) n.locks
       → content_of q ≡ entered (record (content_of n) { reserved = n.reserved + 1 }) c (by_agent c (Update t r row))
       → StandsFor q
   update-place by are wrote entry =

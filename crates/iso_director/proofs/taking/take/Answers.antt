@@ -28,45 +28,45 @@ returns-then-parts-clause-taken c =
     (may-purged p.head (world_of p) (ap (λ (q : Pace). q.purged) (sym c.requires.stands.parts.pace) ∙ c.if-parts.true)) c.requires.going)
     c.take_line.ensures.taken
 
-pub purge-requires-clause-calm : goal.purge-requires-clause-calm
-purge-requires-clause-calm c = ap (λ (q : Pace). q.purged) (sym c.requires.stands.parts.pace) ∙ c.if-parts.false
+pub purge_among-requires-clause-calm : goal.purge_among-requires-clause-calm
+purge_among-requires-clause-calm c = ap (λ (q : Pace). q.purged) (sym c.requires.stands.parts.pace) ∙ c.if-parts.false
 
 pub returns-in-Ok-true-clause-taken : goal.returns-in-Ok-true-clause-taken
 returns-in-Ok-true-clause-taken c =
     let p = c.args.parts.now in
-    let q = c.purge.new.parts in
+    let q = c.purge_among.new.parts in
     let calm = ap (λ (q : Pace). q.purged) (sym c.requires.stands.parts.pace) ∙ c.if-parts.false in
     purged-pair p.head p.history.items q.history.items c.args.line.now calm (sym c.in-Ok-true.ensures.answer ∙ c.in-Ok-true.field-0-test) c.in-Ok-true.ensures.ok
-    (subst (λ (h : Head). Ground h q.history.items) c.purge.ensures.head c.purge.ensures.stands.ground)
+    (subst (λ (h : Head). Ground h q.history.items) c.purge_among.ensures.head c.purge_among.ensures.stands.ground)
 
 pub take_line-requires-in-Ok-false-clause-open : goal.take_line-requires-in-Ok-false-clause-open
 take_line-requires-in-Ok-false-clause-open c =
     let p = c.args.parts.now in
-    let q = c.purge.new.parts in
+    let q = c.purge_among.new.parts in
     let none = sym c.in-Ok-false.ensures.answer ∙ c.in-Ok-false.field-0-test in
     let same = none-purged p.head (world_of p) p.history.items q.history.items none c.in-Ok-false.ensures.ok in
-    moved (λ h es. (world h es).pace.finished ≡ false) p.head q.head p.history.items q.history.items c.purge.ensures.head same c.requires.open
+    moved (λ h es. (world h es).pace.finished ≡ false) p.head q.head p.history.items q.history.items c.purge_among.ensures.head same c.requires.open
 
 pub take_line-requires-in-Ok-false-clause-going : goal.take_line-requires-in-Ok-false-clause-going
 take_line-requires-in-Ok-false-clause-going c =
     let p = c.args.parts.now in
-    let q = c.purge.new.parts in
+    let q = c.purge_among.new.parts in
     let none = sym c.in-Ok-false.ensures.answer ∙ c.in-Ok-false.field-0-test in
     let same = none-purged p.head (world_of p) p.history.items q.history.items none c.in-Ok-false.ensures.ok in
-    moved (λ h es. (world h es).pace.stopped ≡ false) p.head q.head p.history.items q.history.items c.purge.ensures.head same c.requires.going
+    moved (λ h es. (world h es).pace.stopped ≡ false) p.head q.head p.history.items q.history.items c.purge_among.ensures.head same c.requires.going
 
 pub take_line-requires-in-Ok-false-clause-may : goal.take_line-requires-in-Ok-false-clause-may
 take_line-requires-in-Ok-false-clause-may c =
     let p = c.args.parts.now in
-    let q = c.purge.new.parts in
+    let q = c.purge_among.new.parts in
     let none = sym c.in-Ok-false.ensures.answer ∙ c.in-Ok-false.field-0-test in
     let same = none-purged p.head (world_of p) p.history.items q.history.items none c.in-Ok-false.ensures.ok in
-    moved (λ h es. MayTakeLine h (world h es)) p.head q.head p.history.items q.history.items c.purge.ensures.head same (may-none p.head (world_of p) none)
+    moved (λ h es. MayTakeLine h (world h es)) p.head q.head p.history.items q.history.items c.purge_among.ensures.head same (may-none p.head (world_of p) none)
 
 pub returns-in-Ok-false-clause-taken : goal.returns-in-Ok-false-clause-taken
 returns-in-Ok-false-clause-taken c =
     let p = c.args.parts.now in
-    let q = c.purge.new.parts in
+    let q = c.purge_among.new.parts in
     let none = sym c.in-Ok-false.ensures.answer ∙ c.in-Ok-false.field-0-test in
     let same = none-purged p.head (world_of p) p.history.items q.history.items none c.in-Ok-false.ensures.ok in
     let l = c.args.line.now in
@@ -74,7 +74,7 @@ returns-in-Ok-false-clause-taken c =
     let r = c.take_line-in-Ok-false.result in
     let made : HasLineTaken p.head (world_of p) (line_step p.head (world_of p) l) p.history.items new r =
     moved (λ h es. HasLineTaken h (world h es) (line_step h (world h es) l) es new r) q.head p.head q.history.items p.history.items
-    (sym c.purge.ensures.head) (sym same) c.take_line-in-Ok-false.ensures.taken in
+    (sym c.purge_among.ensures.head) (sym same) c.take_line-in-Ok-false.ensures.taken in
     subst (λ (o : Option Act). HasLineTaken p.head (world_of p) o p.history.items new r)
     (due-line p.head (world_of p) l (may-none p.head (world_of p) none) c.requires.going) made
 
@@ -86,6 +86,6 @@ stopped-requires-clause-may c =
     let calm = ap (λ (q : Pace). q.purged) (sym c.requires.stands.parts.pace) ∙ c.if-parts.false in
     let may : MayHalt p.head (world_of p) (due_step p.head (world_of p) l) cause =
     subst (λ (x : Cause). MayHalt p.head (world_of p) (due_step p.head (world_of p) l) x) (sym c.cause_of.ensures)
-    (purge-halts p.head p.history.items c.purge.new.parts.history.items l calm c.in-Err.fault c.in-Err.ensures.due c.in-Err.ensures.full) in
+    (purge-halts p.head p.history.items c.purge_among.new.parts.history.items l calm c.in-Err.fault c.in-Err.ensures.due c.in-Err.ensures.full) in
     subst (λ (x : Content). may_halt x.head (world x.head x.history) cause ≡ true) (sym c.in-Err.ensures.err)
     (halt-stands (content_of p) l cause c.requires.stands.stands c.requires.open c.requires.going c.requires.line may)

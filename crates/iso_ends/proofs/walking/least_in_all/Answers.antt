@@ -3,7 +3,7 @@ use Rattle.iso_ends.proofs.PurgeWalks.{pairs-ordered}
 use Rattle.iso_history.specs.Entries.{is_purgeable}
 use Rattle.iso_key.specs.Pages.{entries}
 use Rattle.iso_state.specs.Stands.{content_of, world_of}
-use Rattle.iso_ends.proofs.doubts.least_in_all.Goals as goal
+use Rattle.iso_ends.proofs.walking.least_in_all.Goals as goal
 
 pub first_purgeable-requires-clause-ordered : goal.first_purgeable-requires-clause-ordered
 first_purgeable-requires-clause-ordered c =

@@ -2,7 +2,7 @@ use Rattle.std.proofs.Common.{◌≡◌, ◌∙◌, sym}
 use Rattle.iso_agent.proofs.Entering.{entered, same_head, voiced-grown, worked}
 use Rattle.iso_latch.specs.Told.{head_of, seen_of, voices_of}
 use Rattle.iso_types.specs.declared.head.Head.{Head}
-use Rattle.iso_agent.proofs.agent.Agent.turn.Goals as goal
+use Rattle.iso_agent.proofs.agent.Agent.turn_ringing.Goals as goal
 
 pub step-state-requires-clause-rested : goal.step-state-requires-clause-rested
 step-state-requires-clause-rested g c =
