@@ -1,5 +1,5 @@
 use Rattle.iso_conduct.proofs.Staged.{err-asks, on-err}
-use Rattle.iso_conduct.proofs.stages.Course.stage_done.Goals as goal
+use Rattle.iso_conduct.proofs.course.Course.stage_done.Goals as goal
 
 pub returns-in_err-work_out-in-RowLock-clause-err : goal.returns-in_err-work_out-in-RowLock-clause-err
 returns-in_err-work_out-in-RowLock-clause-err c =

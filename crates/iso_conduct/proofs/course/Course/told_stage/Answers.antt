@@ -2,7 +2,7 @@ use Rattle.std.proofs.Common.{refl}
 use Rattle.iso_conduct.specs.declared.moves.Told.{Told}
 use Rattle.iso_conduct.proofs.Classes.{at-back, at-granted, at-scan, at-undo}
 use Rattle.iso_conduct.proofs.Staged.{on-err}
-use Rattle.iso_conduct.proofs.telling.Course.told_stage.Goals as goal
+use Rattle.iso_conduct.proofs.course.Course.told_stage.Goals as goal
 
 pub look_done-requires-clause-stage : goal.look_done-requires-clause-stage
 look_done-requires-clause-stage c = at-scan _ c.args.self.now c.requires.sound.at (Told.Shown c.in-Shown.shown c.in-Shown.fresh) refl (rw c.in-Shown.is at c.requires.answers)
