@@ -3,6 +3,10 @@
 #![tactic(auto)]
 
 #[cfg(test)]
+mod chain;
+#[cfg(test)]
+mod changes;
+#[cfg(test)]
 mod guards;
 #[cfg(test)]
 mod records;
@@ -14,3 +18,5 @@ mod slots;
 mod tables;
 #[cfg(test)]
 mod tests;
+#[cfg(test)]
+mod units;

@@ -16,7 +16,7 @@ pub fn shows_slot(
     head: Option<u32>,
     first: Option<u32>,
 ) -> bool {
-    if !has_slot(tables, Rid(0)) {
+    if !has_slot(tables, TableId(0), Rid(0)) {
         return false;
     }
     let slot = slot_of(tables, TableId(0), Rid(0));
@@ -26,11 +26,11 @@ pub fn shows_slot(
 /// Writes a row into the slot, and deletes it.
 fn write_and_kill(alloc: Global, tables: &mut Items<Table>) -> Result<bool, Memory> {
     let row = row_of(alloc, 20)?;
-    if has_slot(tables, Rid(0)) {
+    if has_slot(tables, TableId(0), Rid(0)) {
         write_slot(tables, TableId(0), Rid(0), 7, row);
     }
     let written = shows_slot(tables, 20, true, Some(7), Some(7));
-    if has_slot(tables, Rid(0)) {
+    if has_slot(tables, TableId(0), Rid(0)) {
         kill_slot(tables, TableId(0), Rid(0), 8);
     }
     Ok(written && shows_slot(tables, 20, false, Some(8), Some(7)))
@@ -42,11 +42,11 @@ pub fn follows_its_chain(alloc: Global) -> Result<bool, Memory> {
     tables.push(one_slot(alloc)?)?;
     let killed = write_and_kill(alloc, &mut tables)?;
     let note = note(Change::Delete, Some(7));
-    if has_slot(&tables, Rid(0)) {
+    if has_slot(&tables, TableId(0), Rid(0)) {
         undo_slot(&mut tables, &note);
     }
     let undone = shows_slot(&tables, 20, true, Some(7), Some(7));
-    if has_slot(&tables, Rid(0)) {
+    if has_slot(&tables, TableId(0), Rid(0)) {
         clear_slot(&mut tables, TableId(0), Rid(0));
     }
     Ok(killed && undone && shows_slot(&tables, 20, true, None, None))

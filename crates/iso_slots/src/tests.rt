@@ -1,4 +1,5 @@
-use crate::{records, slots, tables};
+use crate::{records, slots, tables, units};
+use iso_log::LogFault;
 use iso_types::Memory;
 use std::process::Abort;
 
@@ -19,4 +20,17 @@ fn records_of_each_kind(rt: HostRuntime) {
 #[test]
 fn a_slot(rt: HostRuntime) {
     assert!(rt; slots::follows_its_chain(rt.alloc()) == Ok(true));
+}
+
+#[test]
+fn whole_units(rt: HostRuntime) {
+    assert!(rt; units::ends_with_a_commit(rt.alloc()) == Ok(true));
+    assert!(rt; units::takes_all_back(rt.alloc()) == Ok(true));
+    assert!(rt; units::is_kept_by_its_pin(rt.alloc()) == Ok(true));
+}
+
+#[test]
+fn changes_past_the_log(rt: HostRuntime) {
+    assert!(rt; units::refuses_the_first(rt.alloc()) == Ok(true));
+    assert!(rt; units::refuses_the_next(rt.alloc()) == Ok(true));
 }
