@@ -179,18 +179,18 @@ fn gives<R: Threads + Wait + Sync + AllocGlobal, G: Gate + Sync>(
     Ok(report.status == 0 && sink.held() == output)
 }
 
-/// B is answered while A is held before its first row's judgement, and nobody gave up.
+/// B is answered while A is held before its first row's judgement: A was held, B replied, and nobody gave up.
 fn judges_outside<R: Threads + Wait + Sync + AllocGlobal>(rt: &R) -> Result<bool, Fail> {
     let gate = HoldsReaders::new();
     let given = gives(rt, READERS, READERS_TOLD, &gate)?;
-    Ok(given && !gate.gave_up.load())
+    Ok(given && gate.held.load() && gate.replied.load() && !gate.gave_up.load())
 }
 
-/// B shows the row as it was when it was pinned, though A has committed since, and nobody gave up.
+/// B shows the row as it was when it was pinned, though A has committed since: B had its pin, A replied twice, and nobody gave up.
 fn rebuilds_outside<R: Threads + Wait + Sync + AllocGlobal>(rt: &R) -> Result<bool, Fail> {
     let gate = HoldsWriter::new();
     let given = gives(rt, PINNED, PINNED_TOLD, &gate)?;
-    Ok(given && !gate.gave_up.load())
+    Ok(given && gate.pinned.load() && gate.committed.load() && !gate.gave_up.load())
 }
 
 #[test]
