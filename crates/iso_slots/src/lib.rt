@@ -9,6 +9,8 @@ mod changes;
 #[cfg(test)]
 mod guards;
 #[cfg(test)]
+mod logs;
+#[cfg(test)]
 mod records;
 #[cfg(test)]
 mod rows;

@@ -1,4 +1,4 @@
-use crate::{records, slots, tables, units};
+use crate::{logs, records, slots, tables, units};
 use iso_log::LogFault;
 use iso_types::Memory;
 use std::process::Abort;
@@ -8,6 +8,11 @@ fn a_table(rt: HostRuntime) {
     assert!(rt; tables::counts_its_slots(rt.alloc()) == Ok(true));
     assert!(rt; tables::keeps_what_is_written(rt.alloc()) == Ok(true));
     assert!(rt; tables::has_its_limit(rt.alloc()) == Ok(true));
+}
+
+#[test]
+fn a_log(rt: HostRuntime) {
+    assert!(rt; logs::appends_in_reserve(rt.alloc()) == Ok(true));
 }
 
 #[test]
