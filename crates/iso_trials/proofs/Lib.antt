@@ -1,0 +1,3 @@
+mod Fits
+mod OwnsAlong
+mod Known
