@@ -14,7 +14,7 @@ use Rattle.iso_latch.specs.declared.view.Stage.{Stage}
 use Rattle.iso_latch.specs.declared.view.Stage.TheVariants.{Idle, Waits, Inside}
 use Rattle.iso_latch.specs.Seen.{has, own, Mine, Continues}
 use Rattle.iso_latch.specs.Rule.{Place, home, out, slot_of, weight, waiting, held, Fits, Kept, Rule, modulo, opening_view, Stands, Apart}
-use Rattle.iso_latch.specs.Told.{keeper, taker, met, spent, ticket_of, drew, looked, grew, served_next, noted, is_inside}
+use Rattle.iso_latch.specs.Told.{keeper, taker, met, spent, ticket_of, drew, looked, grew, served_next, noted, stood, is_inside}
 use Rattle.iso_latch.proofs.Voices.{has_below, length-below, not_both}
 use Rattle.iso_latch.proofs.Events.{draws, takes_turn, at_home, grows, gives_back, splits, joins, closes}
 
@@ -48,8 +48,9 @@ module _ {S : Type 0} (headf : S → Head) (history : S → List Entry) (seats :
       served = r.served;
       log = r.log;
       place = r.place;
+      door = r.door;
       small = r.small;
-      words_are = ap (λ (ws : List ℕ). set ws 0 ((get_or ws 0 0 + 1) % 18446744073709551616)) r.words_are ∙ ap (λ (n : ℕ). n ∷ modulo r.served ∷ modulo (length r.log) ∷ []) (wrap_more r.drawn 1);
+      words_are = ap (λ (ws : List ℕ). set ws 0 ((get_or ws 0 0 + 1) % 18446744073709551616)) r.words_are ∙ ap (λ (n : ℕ). n ∷ modulo r.served ∷ modulo (length r.log) ∷ r.door ∷ []) (wrap_more r.drawn 1);
       homes_are = r.homes_are;
       kept = draws headf history seats h r.drawn r.served r.log r.place s.views r.kept id me.0 at idle some_voice;
     },
@@ -87,6 +88,7 @@ module _ {S : Type 0} (headf : S → Head) (history : S → List Entry) (seats :
           served = r.served;
           log = r.log;
           place = out id;
+          door = r.door;
           small = r.small;
           words_are = set-get_or s.words 1 0 ∙ r.words_are;
           homes_are = ap (λ hs. set hs 0 none) homes;
@@ -115,8 +117,9 @@ module _ {S : Type 0} (headf : S → Head) (history : S → List Entry) (seats :
           served = r.served;
           log = r.log ++ new;
           place = r.place;
+          door = r.door;
           small = r.small;
-          words_are = ap (λ (ws : List ℕ). set ws 2 ((get_or ws 2 0 + k) % 18446744073709551616)) r.words_are ∙ ap (λ (n : ℕ). modulo r.drawn ∷ modulo r.served ∷ n ∷ []) (wrap_more (length r.log) k ∙ ap modulo longer_by);
+          words_are = ap (λ (ws : List ℕ). set ws 2 ((get_or ws 2 0 + k) % 18446744073709551616)) r.words_are ∙ ap (λ (n : ℕ). modulo r.drawn ∷ modulo r.served ∷ n ∷ r.door ∷ []) (wrap_more (length r.log) k ∙ ap modulo longer_by);
           homes_are = r.homes_are;
           kept = subst (λ (l : List Entry). Kept headf history seats h r.drawn r.served (r.log ++ new) r.place (set s.views id (record me.0 { seen = l; parts = [] }))) log_is
               (grows headf history seats h r.drawn r.served r.log r.place s.views r.kept id me.0 (ticket_of me.0.stage) new at is own_new);
@@ -145,13 +148,34 @@ module _ {S : Type 0} (headf : S → Head) (history : S → List Entry) (seats :
           served = r.served + 1;
           log = r.log;
           place = home x;
+          door = r.door;
           small = r.small;
-          words_are = ap (λ (ws : List ℕ). set ws 1 ((get_or ws 1 0 + 1) % 18446744073709551616)) r.words_are ∙ ap (λ (n : ℕ). modulo r.drawn ∷ n ∷ modulo (length r.log) ∷ []) (wrap_more r.served 1);
+          words_are = ap (λ (ws : List ℕ). set ws 1 ((get_or ws 1 0 + 1) % 18446744073709551616)) r.words_are ∙ ap (λ (n : ℕ). modulo r.drawn ∷ n ∷ modulo (length r.log) ∷ r.door ∷ []) (wrap_more r.served 1);
           homes_are = (λ i. put_back (homes i) (carried i));
           kept = gives_back headf history seats h r.drawn r.served r.log r.place x s.views r.kept id me.0 (ticket_of me.0.stage) at is (some_is (headf x) h (sym hd ∙ mine.head st.2)) (hist ∙ st.4);
         },
         ap (λ (l : List (ℕ × Option S)). let w : M = (record me.0 { stage = Idle }, rest l) in w) carried,
       )
+
+  -- the door may change to whatever it likes: the rule says nothing of it
+  pub door_allowed : (slots id : ℕ) (me : M) (f : ℕ → ℕ) (a b : ℕ) → Allows R slots id me 3 f (stood (step slots 3 a b none) me)
+  door_allowed slots id me f a b s r deep at fits = (
+    me.0,
+    keeps,
+    tt,
+    record {
+      drawn = r.drawn;
+      served = r.served;
+      log = r.log;
+      place = r.place;
+      door = f (get_or s.words 3 0);
+      small = r.small;
+      words_are = ap (λ (ws : List ℕ). set ws 3 (f (get_or s.words 3 0))) r.words_are;
+      homes_are = r.homes_are;
+      kept = subst (λ (vs : List View). Kept headf history seats h r.drawn r.served r.log r.place vs) (sym (set_again s.views id me.0 at)) r.kept;
+    },
+    refl,
+  )
 
   pub note_allowed : (slots id : ℕ) (me : M) → Allows R slots id me 0 (λ n. n) (noted (step slots 0 0 0 none) me)
   note_allowed slots id me s r deep at fits = (me.0, keeps, tt, same s r 0 id me at, (refl, (r.kept.each id me.0 at).notes))
@@ -162,6 +186,7 @@ module _ {S : Type 0} (headf : S → Head) (history : S → List Entry) (seats :
     served = r.served;
     log = r.log;
     place = r.place;
+    door = r.door;
     small = r.small;
     words_are = r.words_are;
     homes_are = r.homes_are;
@@ -174,6 +199,7 @@ module _ {S : Type 0} (headf : S → Head) (history : S → List Entry) (seats :
     served = r.served;
     log = r.log;
     place = r.place;
+    door = r.door;
     small = r.small;
     words_are = r.words_are;
     homes_are = r.homes_are;
@@ -181,12 +207,13 @@ module _ {S : Type 0} (headf : S → Head) (history : S → List Entry) (seats :
   }
 
   -- the table at the start
-  pub starts : (x : S) → seats < 4294967296 → headf x ≡ h → history x ≡ [] → R (opening (0 ∷ 0 ∷ 0 ∷ []) (Some x ∷ []) (opening_view seats h))
+  pub starts : (x : S) → seats < 4294967296 → headf x ≡ h → history x ≡ [] → R (opening (0 ∷ 0 ∷ 0 ∷ 0 ∷ []) (Some x ∷ []) (opening_view seats h))
   starts x small hd hist = let v : View = opening_view seats h in let long = length-below seats in record {
     drawn = 0;
     served = 0;
     log = [];
     place = home x;
+    door = 0;
     small = small;
     words_are = refl;
     homes_are = refl;

@@ -1,4 +1,4 @@
--- The rule of the latch. Word 0 counts the tickets that were drawn, word 1 those that were served, word 2 the entries of the history, all modulo 2^64.
+-- The rule of the latch. Word 0 counts the tickets that were drawn, word 1 those that were served, word 2 the entries of the history, all modulo 2^64. Word 3 is the door, of which the rule says nothing: it only shapes who sleeps.
 use Rattle.std.specs.Prelude.{◌≡◌, ◌≢◌, ℕ, ◌+◌, ◌%◌, ◌<◌, ◌≤◌, true, false, List, [], ◌∷◌, length, Option, Some}
 use mathlib.Core.Option.{some}
 use mathlib.Core.Option as maybe
@@ -100,8 +100,9 @@ module _ {S : Type 0} (headf : S → Head) (history : S → List Entry) (seats :
     pub served : ℕ
     pub log : List Entry
     pub place : Place S
+    pub door : ℕ
     pub small : seats < 4294967296
-    pub words_are : s.words ≡ modulo drawn ∷ modulo served ∷ modulo (length log) ∷ []
+    pub words_are : s.words ≡ modulo drawn ∷ modulo served ∷ modulo (length log) ∷ door ∷ []
     pub homes_are : s.homes ≡ slot_of place ∷ []
     pub kept : Kept drawn served log place s.views
 

@@ -72,6 +72,10 @@ module _ {S : Type 0} where
   abbrev pub noted : Step (Option S) → Sat S → ℕ → Sat S → Type 0
   noted st m n m' = (m' ≡ m) × Notes m.0.seen m.0.parts
 
+  -- the seat is as it was
+  abbrev pub stood : Step (Option S) → Sat S → ℕ → Sat S → Type 0
+  stood st m n m' = m' ≡ m
+
   -- it is the same seat of the same table
   abbrev pub IsSameSeat : Seat (Option S) View → Seat (Option S) View → Type 0
   IsSameSeat s t = (t.table_id ≡ s.table_id) × (t.id ≡ s.id)

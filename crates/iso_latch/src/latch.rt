@@ -6,7 +6,7 @@ ghost use Rattle.iso_latch.specs.Rule.{modulo};
 ghost use Rattle.iso_latch.specs.Told.{seen_of, voices_of, head_of, own_of, is_inside, ticket_of, Takes, IsSameSeat, keeper, taker};
 
 use crate::pass::{Latch, Pass, Turn};
-use crate::plays::{Cut, Draw, Glue, Grow, Look, Note, Serve, Voice};
+use crate::plays::{Cut, Door, Draw, Glue, Grow, Look, Note, Serve, Voice};
 use crate::view::{About, View};
 use atomic_table::{Seat, Table};
 use crossbeam_utils::Backoff;
@@ -17,8 +17,12 @@ use std::marker::Brand;
 use std::snapshot::Snapshot;
 use std::sync::Wait;
 
-// A sleep compares the low 32 bits of a word.
-const LOW: u64 = 0xffff_ffff;
+// The door: nobody is behind it, somebody is, or somebody is and others may sleep before it.
+const OPEN: u64 = 0;
+
+const SHUT: u64 = 1;
+
+const AWAITED: u64 = 2;
 
 impl<S: Chronicle> Latch<S> {
     /// A latch over the first state, and its only pass, which has the voices from 0 to `seats` - 1 and has seen nothing.
@@ -41,10 +45,39 @@ impl<S: Chronicle> Latch<S> {
         };
         let mut slots = Vec::with_capacity(alloc, 1)?;
         slots.push(Some(first))?;
-        let Ok((table, seat)) = Table::new(alloc, &[0, 0, 0], slots, &about) else {
+        let Ok((table, seat)) = Table::new(alloc, &[0, 0, 0, OPEN], slots, &about) else {
             return Err(Memory);
         };
         Ok((Latch { table }, Pass { seat }))
+    }
+
+    /// Goes in by the door, which lets one in at a time, whoever finds it open; others sleep until it opens.
+    fn go_in<R: Wait>(&self, rt: &R, seat: &mut Seat<Option<S>, View>)
+        requires of { seat.old.table_id ≡ self.now.table.shared.table_id }
+        ensures same { IsSameSeat seat.old seat.new × (seat.new.me ≡ seat.old.me) }
+    {
+        let shared = &self.table.shared;
+        if shared.compare_exchange::<Door>(seat, 3, OPEN, SHUT) == OPEN {
+            return;
+        }
+        for _ in rt.forever() {
+            if shared.swap::<Door>(seat, 3, AWAITED) == OPEN {
+                return;
+            }
+            shared.park(rt, 3, AWAITED as u32);
+        }
+        unreachable!()
+    }
+
+    /// Opens the door, and wakes one that sleeps before it, where there may be one.
+    fn go_out(&self, seat: &mut Seat<Option<S>, View>)
+        requires of { seat.old.table_id ≡ self.now.table.shared.table_id }
+        ensures same { IsSameSeat seat.old seat.new × (seat.new.me ≡ seat.old.me) }
+    {
+        let shared = &self.table.shared;
+        if shared.swap::<Door>(seat, 3, OPEN) == AWAITED {
+            shared.wake_one(3);
+        }
     }
 
     /// Draws the next ticket.
@@ -57,7 +90,7 @@ impl<S: Chronicle> Latch<S> {
         self.table.shared.fetch_add::<Draw>(seat, 0, 1)
     }
 
-    /// Waits until the ticket is served, and takes the slot: a few rounds of looking, then a sleep between two looks.
+    /// Waits until the ticket is served, and takes the slot. Who came in by the door finds it served at the first look.
     fn wait<R: Wait>(&self, rt: &R, seat: &mut Seat<Option<S>, View>, ticket: u64)
         requires of { seat.old.table_id ≡ self.now.table.shared.table_id }
         requires waits { (t : ℕ) × (modulo t ≡ ticket) × (seat.old.me.0.stage ≡ Waits t) }
@@ -70,11 +103,7 @@ impl<S: Chronicle> Latch<S> {
             if found == ticket {
                 return;
             }
-            if backoff.is_completed() {
-                self.table.shared.park(rt, 1, (found & LOW) as u32);
-            } else {
-                backoff.snooze();
-            }
+            backoff.snooze();
         }
         unreachable!()
     }
@@ -104,7 +133,7 @@ impl<S: Chronicle> Latch<S> {
     }
 
     /// Waits for the turn, and takes the state. Its history begins with all that the pass has seen, and every entry of
-    /// the pass's voices in it is the pass's own. It may wait; without rivals it costs two atomic steps.
+    /// the pass's voices in it is the pass's own. It may wait; without rivals it costs three atomic steps.
     pub fn enter<R: Wait>(&self, rt: &R, pass: Pass<S>) -> (Turn<S>, S)
         requires { pass.seat.table_id ≡ self.now.table.shared.table_id }
         ensures of { result.0.seat.table_id ≡ pass.seat.table_id }
@@ -114,6 +143,7 @@ impl<S: Chronicle> Latch<S> {
         ensures own { own (voices_of pass.seat) (seen_of result.0.seat) ≡ own (voices_of pass.seat) (seen_of pass.seat) }
     {
         let Pass { mut seat } = pass;
+        self.go_in(rt, &mut seat);
         let ticket = self.draw(&mut seat);
         self.wait(rt, &mut seat, ticket);
         let state = self.take(&mut seat);
@@ -122,8 +152,8 @@ impl<S: Chronicle> Latch<S> {
     }
 
     /// Gives the state back, whose history may have grown by entries of the turn's voices. These become the pass's own,
-    /// each once, and seen. It neither waits nor takes memory, and costs two atomic steps and a wake of those that
-    /// sleep.
+    /// each once, and seen. It neither waits nor takes memory, and costs three atomic steps; where others may sleep, it
+    /// wakes one of them.
     pub fn leave(&self, turn: Turn<S>, state: S) -> Pass<S>
         requires of { turn.seat.table_id ≡ self.now.table.shared.table_id }
         requires head { head_of turn.seat ≡ Some (S.head state) }
@@ -140,7 +170,7 @@ impl<S: Chronicle> Latch<S> {
             .shared
             .fetch_add::<Grow>(&mut seat, 2, added as u64);
         self.table.shared.fetch_add::<Serve>(&mut seat, 1, 1);
-        self.table.shared.wake_all(1);
+        self.go_out(&mut seat);
         Pass { seat }
     }
 

@@ -8,13 +8,13 @@ use atomic_table::{Seat, Table};
 use iso_history::Chronicle;
 use std::alloc::Global;
 
-/// One state that is held in turn, over one slot and three words: the tickets that were drawn, those that were served,
-/// and the entries of the history. A hold without rivals costs four atomic steps on the words, and moves the state out
-/// of the slot and in again by value; nothing is copied.
+/// One state that is held in turn, over one slot and four words: the tickets that were drawn, those that were served,
+/// the entries of the history, and the door. A hold without rivals costs six atomic steps on the words, and moves the
+/// state out of the slot and in again by value; nothing is copied.
 #[derive(Drop)]
 pub struct Latch<S: Chronicle> {
     pub(crate) table: Table<Option<S>, View, About<S>, InTurn, Global>,
-    ghost sized: { (table.shared.table_id.words ≡ 3) × (table.shared.table_id.slots ≡ 1) },
+    ghost sized: { (table.shared.table_id.words ≡ 4) × (table.shared.table_id.slots ≡ 1) },
 }
 
 /// The right to enter, outside a hold. It has one or more voices, and knows how much of the history was seen. Its own

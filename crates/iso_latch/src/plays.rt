@@ -40,6 +40,15 @@ impl<S> Play<Option<S>, View> for Serve {
     ghost then = { served_next };
 }
 
+/// The door is tried, left or opened, of which the rule says nothing.
+pub(crate) struct Door;
+
+impl<S> Play<Option<S>, View> for Door {
+    ghost use Rattle.iso_latch.specs.Told.{stood};
+
+    ghost then = { stood };
+}
+
 /// What the two passes of a meeting had seen.
 pub(crate) struct Note;
 

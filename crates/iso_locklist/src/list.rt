@@ -258,8 +258,10 @@ impl LockList {
         self.request_from(conn, requests, 0)
     }
 
-    /// Requests the mode on a name that nobody holds or awaits, to be kept.
-    fn request_kept(&mut self, conn: Conn, name: &Name, mode: Mode) -> Result<(), LockFault>
+    /// Requests the mode on a name that nobody holds or awaits, to be kept: it is granted, and the name stands behind the
+    /// others. `AtShare`, `AtCapacity`: the request is at that limit. `Memory`: want of memory. After a fault nothing
+    /// changed. Its cost is that of a request.
+    pub fn request_kept(&mut self, conn: Conn, name: &Name, mode: Mode) -> Result<(), LockFault>
         requires { conn.0 < 32 }
         ensures lists { (hs : List Held) (xs : List Awaiting) → LocksAre hs xs self.old → is_waiting xs conn ≡ false → IsNew hs xs name.now → OnOk result (LocksAre (added hs conn (asked_for name.now mode Terms.Kept)) xs self.new) }
         ensures line { OnOk result (line_at self.new.places name.now ≡ asked (line_at self.old.places name.now) conn mode Terms.Kept) }

@@ -117,8 +117,8 @@ fn run_agents<R: Threads + Wait + Sync, G: Gate + Sync>(
 /// Runs a script on threads: an agent for each connection on a thread of its own, and the dispatcher on the caller's; an agent
 /// for which no thread can be started takes its turns on the caller's, too. Whatever order their holds of the state come in, the
 /// history is legal and guarded, and ends with Finish. `AllocError` comes only before the first entry, where there is no memory
-/// for the state and the lists of the run; later, whoever finds none stops. It may wait. Each entry wakes all that rest. (This
-/// project's own.)
+/// for the state and the lists of the run; later, whoever finds none stops. It may wait. Behind an entry those are woken whom it
+/// has made able. (This project's own.)
 pub fn run_threads<R: Threads + Wait + Sync, G: Gate + Sync>(
     rt: &R,
     alloc: Global,

@@ -12,4 +12,4 @@ mod Writable
 mod Taken
 mod RowSteps
 mod Blocked
-mod GivenBack
+mod SameLocks

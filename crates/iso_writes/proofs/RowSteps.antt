@@ -1,4 +1,4 @@
--- The parts after a row was written, and after it was not for want of memory.
+-- The parts after a row was written.
 use Rattle.std.proofs.Common.{◌≡◌, ◌≤◌, ◌<◌, ◌+◌, ◌-◌, ℕ, Bool, true, false, List, length, refl, ap, sym, ◌∙◌, arith, subst, None, Some, map}
 use Rattle.std.specs.List.{cons_option}
 use Rattle.std.specs.Prelude.{is_none, is_some}
@@ -26,8 +26,8 @@ use Rattle.iso_queue.specs.Locks.{Hold, settled, without_briefs}
 use Rattle.iso_queue.specs.Queues.{Wait, is_waiting}
 use Rattle.iso_state.proofs.FactsAlong.{kept-of, log_sound-of, sound-of, work-there}
 use Rattle.iso_state.specs.Changes.{entered, relocked}
-use Rattle.iso_state.specs.Stands.{Content, HasPlace, Stands, StandsFor, content_of, world_of}
-use Rattle.iso_state.specs.Steps.{IsReady, KeepsRoom, Spends}
+use Rattle.iso_state.specs.Stands.{Content, Stands, StandsFor, content_of, world_of}
+use Rattle.iso_state.specs.Steps.{IsReady, Spends}
 use Rattle.iso_state.specs.declared.parts.Parts.{Parts}
 use Rattle.iso_types.specs.Head.{indexes}
 use Rattle.iso_types.specs.declared.desk.Phase.TheVariants.{Running}
@@ -65,32 +65,6 @@ indexes-there p s =
 -- the lock list with these locks taken, and the holds settled
 abbrev pub AreTaken : List Hold → List Wait → Conn → List Asking → Ledger → Type 0
 AreTaken hs xs c asks l = LocksAre (without_briefs (all_added hs c asks) c (settled c None (all_added hs c asks))) xs l
-
--- the parts with another lock list of the same holds and waits
-pub relocked-place : (p q : Parts) → StandsFor p → LocksAre (world_of p).holds (world_of p).waits q.locks → IsSameLimits q.locks p.locks
-    → content_of q ≡ relocked (content_of p) q.locks → KeepsRoom p q → StandsFor q
-relocked-place p q s are limits wrote room =
-    let needs = s.room.for_needs in
-    let owed = s.room.for_debt in
-    let more = room.history in
-    let also = room.log in
-    subst (λ (x : Content). HasPlace x q.history.spare q.log.spare) (sym wrote) (record {
-      stands = record {
-        parts = record { chain = s.parts.chain; entries = s.parts.entries; locks = are; desks = s.parts.desks; reserved = s.parts.reserved; pace = s.parts.pace };
-        carried = s.carried;
-        conns = s.conns;
-        works = s.works;
-        limits = record {
-          share = limits.share ∙ s.limits.share;
-          slots = limits.slots ∙ s.limits.slots;
-          index_tables = limits.index_tables ∙ s.limits.index_tables;
-        };
-        bounds = s.bounds;
-        fits = s.fits;
-        ground = s.ground;
-      };
-      room = record { for_needs = omega (arith, needs, more); for_debt = omega (arith, owed, also) };
-    })
 
 -- the pairs that a row's keys leave are those of the world after its entry
 keyed : (p : Content) → Stands p → (t : TableId) (r : Rid) (row : List Value)
@@ -175,3 +149,20 @@ insert-new p c t r row s is =
 pub update-new : (p : Parts) (c : Conn) (t : TableId) (row : List Value) → StandsFor p
     → AreNew (world_of p).holds (world_of p).waits (cons_option None (key_asks p.head (world_of p) c t row (length p.head.indexes) 0))
 update-new p c t row s = keys-new p.head (world_of p) c t row (sound-of s.stands).locks (length p.head.indexes) 0
+
+-- what is told of the locks that they take, whatever holds and waits the lock list stands for, is so
+pub insert-told : (p : Parts) (c : Conn) (t : TableId) (r : Rid) (row : List Value) (asks : List Asking) (P : Type 0) → StandsFor p
+    → phase (world_of p) c ≡ Running → r ≡ next_rid (world_of p) t
+    → asks ≡ cons_option (row_ask p.head (world_of p) c t r) (key_asks p.head (world_of p) c t row (length p.head.indexes) 0)
+    → ((hs : List Hold) (xs : List Wait) → LocksAre hs xs p.locks → is_waiting xs c ≡ false → AreNew hs xs asks → P) → P
+insert-told p c t r row asks P s runs is e told =
+    told (world_of p).holds (world_of p).waits s.parts.locks (idle-of (world_of p) c runs)
+    (subst (λ (l : List Asking). AreNew (world_of p).holds (world_of p).waits l) (sym e) (insert-new p c t r row s is))
+
+pub update-told : (p : Parts) (c : Conn) (t : TableId) (row : List Value) (asks : List Asking) (P : Type 0) → StandsFor p
+    → phase (world_of p) c ≡ Running
+    → asks ≡ cons_option None (key_asks p.head (world_of p) c t row (length p.head.indexes) 0)
+    → ((hs : List Hold) (xs : List Wait) → LocksAre hs xs p.locks → is_waiting xs c ≡ false → AreNew hs xs asks → P) → P
+update-told p c t row asks P s runs e told =
+    told (world_of p).holds (world_of p).waits s.parts.locks (idle-of (world_of p) c runs)
+    (subst (λ (l : List Asking). AreNew (world_of p).holds (world_of p).waits l) (sym e) (update-new p c t row s))

@@ -8,7 +8,6 @@ ghost use Rattle.iso_history.specs.Versions.{next_rid};
 ghost use Rattle.iso_history.specs.Writes.{deletes, inserts, may_change, may_write, updates};
 ghost use Rattle.iso_history.specs.declared.entry.Act.TheVariants as acts;
 ghost use Rattle.iso_types.specs.Head.{row_fits};
-ghost use Rattle.iso_state.specs.Changes.{relocked};
 ghost use Rattle.iso_state.specs.Stands.{StandsFor, content_of, world_of};
 ghost use Rattle.iso_writes.specs.Answers.{answer_of, appended};
 
@@ -48,9 +47,8 @@ pub fn delete(parts: &mut Parts, conn: Conn, table: TableId, rid: Rid) -> Result
 /// key, is in its way, that lock was asked for, and it waits; `TimedOut`: it may not wait, and has to roll back; `Refused(-803)`:
 /// another row has its key in a unique index; `Refused(-964)`: one more change would be past the log. Where the locks on keys
 /// that inherit one are at a limit: `Escalates`, the lock of that table was asked for instead, and is granted or queues;
-/// `Refused(-912)`: there is no such table. `HistoryFull`: its entry would be full. After a fault all is as before, but that the
-/// lock list may keep the same holds and waits in another way. It costs copies of the row, its keys' places in the indexes, and
-/// what judging it costs; at the limit as `escalate`.
+/// `Refused(-912)`: there is no such table. `HistoryFull`: its entry would be full. After a fault all is as before. It costs copies
+/// of the row, its keys' places in the indexes, and what judging it costs; at the limit as `escalate`.
 /// Db2 LUW, 'UPDATE statement', 'Next-key locking', 'Lock escalation', 'logprimary' and 'logsecond', 'SQLCODE -803', 'SQLCODE
 /// -911', 'SQLCODE -912', 'SQLCODE -964'.
 pub fn update(
@@ -72,7 +70,7 @@ pub fn update(
     ensures answer { IfOk result (λ a. a ≡ answer_of (written_by parts.old.head (world_of parts.old) conn (acts.Update table rid row.now) (updates parts.old.head (world_of parts.old) conn table rid row.now))) }
     ensures full { result ≡ Err StepFault.HistoryFull → is_full parts.old.head (world_of parts.old) (by_agent conn (written_by parts.old.head (world_of parts.old) conn (acts.Update table rid row.now) (updates parts.old.head (world_of parts.old) conn table rid row.now))) ≡ true }
     ensures ok { OnOk result (parts.new.history.items ≡ parts.old.history.items ++ by_agent conn (written_by parts.old.head (world_of parts.old) conn (acts.Update table rid row.now) (updates parts.old.head (world_of parts.old) conn table rid row.now)) ∷ []) }
-    ensures err { OnErr result (content_of parts.new ≡ relocked (content_of parts.old) parts.new.locks) }
+    ensures err { OnErr result (content_of parts.new ≡ content_of parts.old) }
 {
     match judge_update(parts, conn, table, rid, row) {
         Coming::Done => {
@@ -89,9 +87,8 @@ pub fn update(
 
 /// Inserts the row into the table's next slot, locks it in X, and adds its keys to the indexes of the table. `Done`; `Full`: the
 /// table has its 65,536 slots, and nothing is appended; `Blocked`, `TimedOut`, `Refused(-803)`, `Refused(-964)`, and at a lock
-/// limit `Escalates` and `Refused(-912)` as for `update`. `HistoryFull`: its entry would be full. After a fault all is as before,
-/// but that the lock list may keep the same holds and waits in another way. It costs copies of the row, its keys' places in the
-/// indexes, and what judging it costs; at the limit as `escalate`.
+/// limit `Escalates` and `Refused(-912)` as for `update`. `HistoryFull`: its entry would be full. After a fault all is as before.
+/// It costs copies of the row, its keys' places in the indexes, and what judging it costs; at the limit as `escalate`.
 /// Db2 LUW, 'INSERT statement', 'Next-key locking', 'Lock escalation', 'logprimary' and 'logsecond', 'SQLCODE -803', 'SQLCODE
 /// -911', 'SQLCODE -912', 'SQLCODE -964'.
 pub fn insert(
@@ -112,7 +109,7 @@ pub fn insert(
     ensures answer { IfOk result (λ a. a ≡ answer_of (written_by parts.old.head (world_of parts.old) conn (acts.Insert table (next_rid (world_of parts.old) table) row.now) (inserts parts.old.head (world_of parts.old) conn table row.now))) }
     ensures full { result ≡ Err StepFault.HistoryFull → is_full parts.old.head (world_of parts.old) (by_agent conn (written_by parts.old.head (world_of parts.old) conn (acts.Insert table (next_rid (world_of parts.old) table) row.now) (inserts parts.old.head (world_of parts.old) conn table row.now))) ≡ true }
     ensures ok { OnOk result (parts.new.history.items ≡ parts.old.history.items ++ appended parts.old.head (world_of parts.old) conn (acts.Insert table (next_rid (world_of parts.old) table) row.now) (inserts parts.old.head (world_of parts.old) conn table row.now)) }
-    ensures err { OnErr result (content_of parts.new ≡ relocked (content_of parts.old) parts.new.locks) }
+    ensures err { OnErr result (content_of parts.new ≡ content_of parts.old) }
 {
     match judge_insert(parts, conn, table, row) {
         Coming::Done => {

@@ -1,19 +1,24 @@
 //! The locks that a write takes: on its new row, and on keys that inherit them.
-ghost use Rattle.std.specs.Prelude.{◌≡◌, ◌≢◌, ◌<◌, ◌≤◌, ◌++◌, List, [], drop, length, false, Err, OnOk, OnErr, IfOk, None};
+ghost use Rattle.std.specs.Prelude.{◌≡◌, ◌≢◌, ◌<◌, ◌≤◌, ◌++◌, ◌∷◌, List, [], drop, length, false, true, Err, OnOk, OnErr, IfOk, None};
 ghost use Rattle.std.specs.List.{cons_option};
-ghost use Rattle.iso_locklist.specs.Holding.{AreNew, LocksAre, all_added};
-ghost use Rattle.iso_locklist.specs.Places.{IsSameLimits};
-ghost use Rattle.iso_queue.specs.Locks.{Hold, freed, settled, without_briefs};
+ghost use Rattle.iso_locklist.specs.Holding.{AreNew, IsNew, LocksAre, all_added};
+ghost use Rattle.iso_locklist.specs.Lists.{asked_for};
+ghost use Rattle.iso_locklist.specs.Places.{IsSameLimits, are_apart, line_at, names, nobody, released};
+ghost use Rattle.iso_modes.specs.declared.Term.TheVariants as Terms;
+ghost use Rattle.iso_queue.specs.Lines.{asked, is_used};
+ghost use Rattle.iso_queue.specs.Locks.{Hold, added, settled, without_briefs};
 ghost use Rattle.iso_queue.specs.Queues.{Wait, is_waiting};
 ghost use Rattle.iso_state.specs.Changes.{relocked};
 ghost use Rattle.iso_state.specs.Stands.{StandsFor, content_of, world_of};
 ghost use Rattle.iso_state.specs.Steps.{KeepsRoom};
+ghost use Rattle.iso_types.specs.Ids.{name_eq};
+ghost use Rattle.iso_types.specs.declared.value.Name.{Name as Other};
 ghost use Rattle.iso_writes.specs.Changing.{LeavesRoom, MayCome, MayRecord, key_ask as ask_on_key, key_asks, row_ask as ask_on_row, written_at};
 
 use crate::changing::Destination;
 use crate::keying::{own_key, write_from};
 use crate::keys::inherits_key;
-use iso_locklist::{Asking, LockList};
+use iso_locklist::Asking;
 use iso_modes::Mode;
 use iso_state::{Parts, covered};
 use iso_types::{Conn, IndexId, Items, Name, Rid, Row, StepFault, TableId};
@@ -88,47 +93,81 @@ fn add_ask(asks: &mut Items<Asking>, ask: &Option<Asking>) -> Result<(), StepFau
     }
 }
 
-/// The connection's hold on the name goes.
-fn release_one(locks: &mut LockList, conn: Conn, name: &Name)
-    requires { conn.0 < 32 }
-    ensures lists { (hs : List Hold) (xs : List Wait) → LocksAre hs xs locks.old → LocksAre (freed conn name.now hs) xs locks.new }
-    ensures limits { IsSameLimits locks.new locks.old }
-{
-    locks.release(conn, *name);
-}
-
-/// Gives back the locks that were taken on these names, from this place on: the last first.
-fn release_from(locks: &mut LockList, conn: Conn, asks: &[Asking], at: usize)
-    requires conn { conn.0 < 32 }
-    requires at { at ≤ length asks.now }
-    ensures lists { (hs : List Hold) (xs : List Wait) → AreNew hs xs (drop at asks.now) → LocksAre (all_added hs conn (drop at asks.now)) xs locks.old → LocksAre hs xs locks.new }
-    ensures limits { IsSameLimits locks.new locks.old }
-{
-    if at < asks.len() {
-        let asking = &asks[at];
-        release_from(locks, conn, asks, at + 1);
-        release_one(locks, conn, &asking.name);
-    }
-}
-
-/// Takes the locks on names that nobody holds or awaits; `Memory` where there is none, and the holds and waits are as before.
-fn take_new(parts: &mut Parts, conn: Conn, asks: &[Asking]) -> Result<(), StepFault>
+/// Takes a lock on a name that nobody holds or awaits. After `Memory` all is as before.
+fn take_one(parts: &mut Parts, conn: Conn, name: &Name, mode: Mode) -> Result<(), StepFault>
     requires conn { conn.0 < 32 }
     ensures content { content_of parts.new ≡ relocked (content_of parts.old) parts.new.locks }
     ensures room { KeepsRoom parts.old parts.new }
-    ensures lists { (hs : List Hold) (xs : List Wait) → LocksAre hs xs parts.old.locks → is_waiting xs conn ≡ false → AreNew hs xs asks.now → OnOk result (LocksAre (all_added hs conn asks.now) xs parts.new.locks) }
-    ensures err { (hs : List Hold) (xs : List Wait) → LocksAre hs xs parts.old.locks → is_waiting xs conn ≡ false → AreNew hs xs asks.now → OnErr result (LocksAre hs xs parts.new.locks) }
+    ensures lists { (hs : List Hold) (xs : List Wait) → LocksAre hs xs parts.old.locks → is_waiting xs conn ≡ false → IsNew hs xs name.now → OnOk result (LocksAre (added hs conn (asked_for name.now mode Terms.Kept)) xs parts.new.locks) }
+    ensures line { OnOk result (line_at parts.new.locks.places name.now ≡ asked (line_at parts.old.locks.places name.now) conn mode Terms.Kept) }
+    ensures others { OnOk result ((n : Other) → name_eq name.now n ≡ false → line_at parts.new.locks.places n ≡ line_at parts.old.locks.places n) }
+    ensures names { OnOk result (line_at parts.old.locks.places name.now ≡ nobody → names parts.new.locks.places ≡ names parts.old.locks.places ++ name.now ∷ []) }
+    ensures was_apart { are_apart (names parts.old.locks.places) ≡ true }
     ensures limits { IsSameLimits parts.new.locks parts.old.locks }
+    ensures err { OnErr result (content_of parts.new ≡ content_of parts.old) }
     ensures fault { result ≢ Err StepFault.HistoryFull }
 {
-    match parts.locks.request_new(conn, asks) {
+    match parts.locks.request_kept(conn, name, mode) {
         Ok(()) => Ok(()),
         Err(_) => Err(StepFault::Memory),
     }
 }
 
-/// Takes the locks, adds the row's keys, writes the row, and settles the holds. After a fault all is as before, but that the
-/// lock list may keep the same holds and waits in another way.
+/// Gives a lock back.
+fn give_back(parts: &mut Parts, conn: Conn, name: &Name)
+    requires conn { conn.0 < 32 }
+    ensures content { content_of parts.new ≡ relocked (content_of parts.old) parts.new.locks }
+    ensures room { KeepsRoom parts.old parts.new }
+    ensures line { line_at parts.new.locks.places name.now ≡ released (line_at parts.old.locks.places name.now) conn }
+    ensures others { (n : Other) → name_eq name.now n ≡ false → line_at parts.new.locks.places n ≡ line_at parts.old.locks.places n }
+    ensures last { (ns : List Other) → names parts.old.locks.places ≡ ns ++ name.now ∷ [] → is_used (released (line_at parts.old.locks.places name.now) conn) ≡ false → names parts.new.locks.places ≡ ns }
+    ensures is_apart { are_apart (names parts.new.locks.places) ≡ true }
+    ensures limits { IsSameLimits parts.new.locks parts.old.locks }
+{
+    parts.locks.release(conn, *name);
+}
+
+/// Takes the locks on names that nobody holds or awaits, from this place on, and then adds the row's keys and writes the row.
+/// After a fault all is as before: each lock is given back, the last first.
+fn write_taking(
+    alloc: Global,
+    parts: &mut Parts,
+    conn: Conn,
+    asks: &[Asking],
+    into: Destination,
+    table: TableId,
+    rid: Rid,
+    row: &Row,
+    at: usize,
+) -> Result<(), StepFault>
+    requires conn { conn.0 < 32 }
+    requires at { at ≤ length asks.now }
+    requires indexes { length parts.old.indexes ≡ length parts.old.head.indexes }
+    requires may { MayRecord (content_of parts.old).chain conn table }
+    requires slot { MayCome into (content_of parts.old).chain table rid row.now }
+    ensures wrote { OnOk result (content_of parts.new ≡ relocked (written_at (content_of parts.old) conn into table rid row.now 0) parts.new.locks) }
+    ensures room { OnOk result (LeavesRoom parts.old parts.new) }
+    ensures lists { (hs : List Hold) (xs : List Wait) → LocksAre hs xs parts.old.locks → is_waiting xs conn ≡ false → AreNew hs xs (drop at asks.now) → OnOk result (LocksAre (all_added hs conn (drop at asks.now)) xs parts.new.locks) }
+    ensures limits { IsSameLimits parts.new.locks parts.old.locks }
+    ensures err { (hs : List Hold) (xs : List Wait) → LocksAre hs xs parts.old.locks → is_waiting xs conn ≡ false → AreNew hs xs (drop at asks.now) → OnErr result (content_of parts.new ≡ content_of parts.old) }
+    ensures kept { OnErr result (KeepsRoom parts.old parts.new) }
+    ensures fault { result ≢ Err StepFault.HistoryFull }
+{
+    if at == asks.len() {
+        return write_from(alloc, parts, conn, into, table, rid, row, 0);
+    }
+    let asking = &asks[at];
+    take_one(parts, conn, &asking.name, asking.mode)?;
+    match write_taking(alloc, parts, conn, asks, into, table, rid, row, at + 1) {
+        Ok(()) => Ok(()),
+        Err(fault) => {
+            give_back(parts, conn, &asking.name);
+            Err(fault)
+        }
+    }
+}
+
+/// Takes the locks, adds the row's keys, writes the row, and settles the holds. After a fault all is as before.
 pub fn write_locked(
     alloc: Global,
     parts: &mut Parts,
@@ -147,20 +186,11 @@ pub fn write_locked(
     ensures room { OnOk result (LeavesRoom parts.old parts.new) }
     ensures lists { (hs : List Hold) (xs : List Wait) → LocksAre hs xs parts.old.locks → is_waiting xs conn ≡ false → AreNew hs xs asks.now → OnOk result (LocksAre (without_briefs (all_added hs conn asks.now) conn (settled conn None (all_added hs conn asks.now))) xs parts.new.locks) }
     ensures limits { IsSameLimits parts.new.locks parts.old.locks }
-    ensures err { OnErr result (content_of parts.new ≡ relocked (content_of parts.old) parts.new.locks) }
+    ensures err { (hs : List Hold) (xs : List Wait) → LocksAre hs xs parts.old.locks → is_waiting xs conn ≡ false → AreNew hs xs asks.now → OnErr result (content_of parts.new ≡ content_of parts.old) }
     ensures kept { OnErr result (KeepsRoom parts.old parts.new) }
-    ensures back { (hs : List Hold) (xs : List Wait) → LocksAre hs xs parts.old.locks → is_waiting xs conn ≡ false → AreNew hs xs asks.now → OnErr result (LocksAre hs xs parts.new.locks) }
     ensures fault { result ≢ Err StepFault.HistoryFull }
 {
-    take_new(parts, conn, asks)?;
-    match write_from(alloc, parts, conn, into, table, rid, row, 0) {
-        Ok(()) => {
-            parts.locks.settle(conn, None);
-            Ok(())
-        }
-        Err(fault) => {
-            release_from(&mut parts.locks, conn, asks, 0);
-            Err(fault)
-        }
-    }
+    write_taking(alloc, parts, conn, asks, into, table, rid, row, 0)?;
+    parts.locks.settle(conn, None);
+    Ok(())
 }

@@ -6,7 +6,6 @@ ghost use Rattle.iso_history.specs.Writes.{deletes, inserts, is_refusal, may_cha
 ghost use Rattle.iso_history.specs.Writes.Written.{Done as IsDone};
 ghost use Rattle.iso_history.specs.Versions.{next_rid};
 ghost use Rattle.iso_types.specs.Head.{row_fits};
-ghost use Rattle.iso_state.specs.Changes.{relocked};
 ghost use Rattle.iso_state.specs.Stands.{StandsFor, content_of, world_of};
 
 use crate::changing::{Destination, copy_of, next_slot, write_deleted};
@@ -41,7 +40,7 @@ pub fn make_delete(parts: &mut Parts, conn: Conn, table: TableId, rid: Rid) -> R
 }
 
 /// Makes the entry of an update that is done: the row has its keys in the indexes, and the connection S on the keys that
-/// inherit it. After a fault all is as before, but that the lock list may keep the same holds and waits in another way.
+/// inherit it. After a fault all is as before.
 pub fn make_update(
     alloc: Global,
     parts: &mut Parts,
@@ -61,7 +60,7 @@ pub fn make_update(
     ensures head { parts.new.head ≡ parts.old.head }
     ensures full { result ≡ Err StepFault.HistoryFull → is_full parts.old.head (world_of parts.old) (by_agent conn (Act.Update table rid row.now)) ≡ true }
     ensures ok { OnOk result (parts.new.history.items ≡ parts.old.history.items ++ by_agent conn (Act.Update table rid row.now) ∷ []) }
-    ensures err { OnErr result (content_of parts.new ≡ relocked (content_of parts.old) parts.new.locks) }
+    ensures err { OnErr result (content_of parts.new ≡ content_of parts.old) }
 {
     make_room(parts, 2)?;
     let told = copy_of(alloc, row)?;
@@ -88,8 +87,7 @@ pub fn make_update(
 }
 
 /// Makes the entry of an insertion that is done: the row has the table's next slot and its keys in the indexes, and the
-/// connection X on it and S on the keys that inherit it. After a fault all is as before, but that the lock list may keep the
-/// same holds and waits in another way.
+/// connection X on it and S on the keys that inherit it. After a fault all is as before.
 pub fn make_insert(
     alloc: Global,
     parts: &mut Parts,
@@ -108,7 +106,7 @@ pub fn make_insert(
     ensures head { parts.new.head ≡ parts.old.head }
     ensures full { result ≡ Err StepFault.HistoryFull → is_full parts.old.head (world_of parts.old) (by_agent conn (Act.Insert table (next_rid (world_of parts.old) table) row.now)) ≡ true }
     ensures ok { OnOk result (parts.new.history.items ≡ parts.old.history.items ++ by_agent conn (Act.Insert table (next_rid (world_of parts.old) table) row.now) ∷ []) }
-    ensures err { OnErr result (content_of parts.new ≡ relocked (content_of parts.old) parts.new.locks) }
+    ensures err { OnErr result (content_of parts.new ≡ content_of parts.old) }
 {
     make_room(parts, 2)?;
     let told = copy_of(alloc, row)?;

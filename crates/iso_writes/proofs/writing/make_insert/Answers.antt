@@ -8,14 +8,15 @@ use Rattle.iso_history.specs.Versions.{next_rid}
 use Rattle.iso_history.specs.declared.entry.Act.TheVariants.{Insert}
 use Rattle.iso_locklist.specs.Holding.{AreNew}
 use Rattle.iso_locklist.specs.declared.places.Asking.{Asking}
-use Rattle.iso_state.proofs.ByKind.{fault-was}
+use Rattle.iso_state.proofs.ByKind.{fault-was, same-place}
 use Rattle.iso_state.specs.Changes.{entered}
 use Rattle.iso_state.specs.Stands.{Content, content_of, world_of}
 use Rattle.iso_types.specs.Head.{row_fits}
 use Rattle.iso_types.specs.declared.desk.Phase.TheVariants.{Running}
 use Rattle.iso_types.specs.declared.value.Value.{Value}
 use Rattle.iso_writes.proofs.ChangeSteps.{change-full}
-use Rattle.iso_writes.proofs.RowSteps.{AreTaken, idle-of, indexes-there, insert-new, insert-place, relocked-place}
+use Rattle.iso_writes.proofs.RowSteps.{AreTaken, idle-of, indexes-there, insert-new, insert-place, insert-told}
+use Rattle.iso_writes.proofs.SameLocks.{on-fault}
 use Rattle.iso_writes.proofs.Writable.{may-record, table-here}
 use Rattle.iso_writes.specs.Changing.{key_asks}
 use Rattle.iso_writes.proofs.writing.make_insert.Goals as goal
@@ -43,20 +44,41 @@ write_locked-requires-clause-may c =
     (subst (λ (x : Content). phase (world x.head x.history) c.args.conn ≡ Running) same c.requires.runs.0)
     (subst (λ (x : Content). row_fits x.head c.args.table c.args.row.now ≡ true) same c.requires.row)
 
+pub returns-in_err-write_locked-clause-err : goal.returns-in_err-write_locked-clause-err
+returns-in_err-write_locked-clause-err c =
+    let p = c.make_room.new.parts in
+    let same = c.in_ok-make_room.ensures.same in
+    let runs = subst (λ (x : Content). phase (world x.head x.history) c.args.conn ≡ Running) (sym same) c.requires.runs.0 in
+    let keys = key_asks p.head (world_of p) c.args.conn c.args.table c.args.row.now (length p.head.indexes) 0 in
+    let asks = c.as_slice.ensures ∙ c.in_ok-asks.ensures.asks ∙ ap (λ (o : Option Asking). cons_option o keys) c.row_ask-first.ensures in
+    on-fault c.from_residual-in_err-write_locked.result
+    (insert-told p c.args.conn c.args.table c.next_slot-rid.result c.args.row.now _ (content_of c.write_locked.new.parts ≡ content_of p)
+    c.in_ok-make_room.ensures.stands runs c.next_slot-rid.ensures asks c.in_err-write_locked.ensures.err
+    ∙ same)
+
+pub returns-in_err-write_locked-clause-head : goal.returns-in_err-write_locked-clause-head
+returns-in_err-write_locked-clause-head c =
+    let p = c.make_room.new.parts in
+    let same = c.in_ok-make_room.ensures.same in
+    let runs = subst (λ (x : Content). phase (world x.head x.history) c.args.conn ≡ Running) (sym same) c.requires.runs.0 in
+    let keys = key_asks p.head (world_of p) c.args.conn c.args.table c.args.row.now (length p.head.indexes) 0 in
+    let asks = c.as_slice.ensures ∙ c.in_ok-asks.ensures.asks ∙ ap (λ (o : Option Asking). cons_option o keys) c.row_ask-first.ensures in
+    ap (λ (x : Content). x.head)
+    (insert-told p c.args.conn c.args.table c.next_slot-rid.result c.args.row.now _ (content_of c.write_locked.new.parts ≡ content_of p)
+    c.in_ok-make_room.ensures.stands runs c.next_slot-rid.ensures asks c.in_err-write_locked.ensures.err
+    ∙ same)
+
 pub returns-in_err-write_locked-clause-stands : goal.returns-in_err-write_locked-clause-stands
 returns-in_err-write_locked-clause-stands c =
     let p = c.make_room.new.parts in
-    let s = c.in_ok-make_room.ensures.stands in
-    let w = world_of p in
-    let d = c.args.conn in
-    let r = c.next_slot-rid.result in
-    let idle = idle-of w d (subst (λ (x : Content). phase (world x.head x.history) d ≡ Running) (sym c.in_ok-make_room.ensures.same) c.requires.runs.0) in
-    let keys = key_asks p.head w d c.args.table c.args.row.now (length p.head.indexes) 0 in
+    let same = c.in_ok-make_room.ensures.same in
+    let runs = subst (λ (x : Content). phase (world x.head x.history) c.args.conn ≡ Running) (sym same) c.requires.runs.0 in
+    let keys = key_asks p.head (world_of p) c.args.conn c.args.table c.args.row.now (length p.head.indexes) 0 in
     let asks = c.as_slice.ensures ∙ c.in_ok-asks.ensures.asks ∙ ap (λ (o : Option Asking). cons_option o keys) c.row_ask-first.ensures in
-    let new = insert-new p d c.args.table r c.args.row.now s c.next_slot-rid.ensures in
-    relocked-place p c.write_locked.new.parts s
-    (c.in_err-write_locked.ensures.back w.holds w.waits s.parts.locks idle (subst (λ (l : List Asking). AreNew w.holds w.waits l) (sym asks) new))
-    c.in_err-write_locked.ensures.limits c.in_err-write_locked.ensures.err c.in_err-write_locked.ensures.kept
+    same-place p c.write_locked.new.parts c.in_ok-make_room.ensures.stands
+    (insert-told p c.args.conn c.args.table c.next_slot-rid.result c.args.row.now _ (content_of c.write_locked.new.parts ≡ content_of p)
+    c.in_ok-make_room.ensures.stands runs c.next_slot-rid.ensures asks c.in_err-write_locked.ensures.err)
+    c.in_err-write_locked.ensures.kept
 
 pub returns-clause-stands : goal.returns-clause-stands
 returns-clause-stands c =

@@ -23,7 +23,7 @@ fetch_add-requires-2 g c = let e = c.put.ensures.put in let now = c.fetch_add.en
 )
 
 pub returns-clause-own : goal.returns-clause-own
-returns-clause-own g c = let e = c.put.ensures.put in let now = c.fetch_add.ensures.2 c.args.state (ap (λ m. m.1) e) in let last = c.fetch_add-2.ensures.2 in let grown = c.requires.grown in
-    let voices : c.fetch_add-2.new.seat.me.0.voices ≡ c.args.turn.seat.me.0.voices = ap (λ m. m.0.voices) last ∙ (ap (λ m. m.0.voices) now ∙ ap (λ m. m.0.voices) e) in
-    let seen : c.fetch_add-2.new.seat.me.0.seen ≡ g.S.Chronicle.history c.args.state = ap (λ m. m.0.seen) last ∙ ap (λ m. m.0.seen) now in
+returns-clause-own g c = let e = c.put.ensures.put in let now = c.fetch_add.ensures.2 c.args.state (ap (λ m. m.1) e) in let last = c.go_out.ensures.same.1 ∙ c.fetch_add-2.ensures.2 in let grown = c.requires.grown in
+    let voices : c.go_out.new.seat.me.0.voices ≡ c.args.turn.seat.me.0.voices = ap (λ m. m.0.voices) last ∙ (ap (λ m. m.0.voices) now ∙ ap (λ m. m.0.voices) e) in
+    let seen : c.go_out.new.seat.me.0.seen ≡ g.S.Chronicle.history c.args.state = ap (λ m. m.0.seen) last ∙ ap (λ m. m.0.seen) now in
     (λ i. own (voices i) (seen i)) ∙ own_grown c.args.turn.seat.me.0.voices c.args.turn.seat.me.0.seen grown.0 (g.S.Chronicle.history c.args.state) grown.1 grown.2

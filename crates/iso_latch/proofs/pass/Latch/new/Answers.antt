@@ -8,7 +8,7 @@ use Rattle.iso_latch.proofs.pass.Latch.new.Goals as goal
 
 pub new-requires : goal.new-requires
 new-requires g c = let items : c.push.new.self.items ≡ Some c.args.first ∷ [] = search rules in let h = g.S.Chronicle.head c.of.result.value in let first : c.args.first ≡ c.of.result.value = search rules in
-    subst (λ (xs : List (Option g.row.S.Denot)). Rule g.S.Chronicle.head g.S.Chronicle.history c.args.seats h (opening (0 ∷ 0 ∷ 0 ∷ []) xs (opening_view c.args.seats h))) (sym items)
+    subst (λ (xs : List (Option g.row.S.Denot)). Rule g.S.Chronicle.head g.S.Chronicle.history c.args.seats h (opening (0 ∷ 0 ∷ 0 ∷ 0 ∷ []) xs (opening_view c.args.seats h))) (sym items)
     (starts g.S.Chronicle.head g.S.Chronicle.history c.args.seats h c.args.first (omega (arith, c.ranges.seats)) (ap g.S.Chronicle.head first) c.requires.empty)
 
 pub invariant_of-result-2 : goal.invariant_of-result-2
