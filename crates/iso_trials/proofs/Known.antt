@@ -13,27 +13,34 @@ use Rattle.iso_history.specs.After.{world}
 use Rattle.iso_history.specs.Entries.{entries_of, found, has_key, key_name, least_purgeable, meets_low}
 use Rattle.iso_history.specs.Facts.{IsSound, has_write_lock}
 use Rattle.iso_history.specs.Holds.{next_name}
-use Rattle.iso_history.specs.Legal.{RollbackStands, Runs, may_undo}
+use Rattle.iso_history.specs.Legal.{By, RollbackStands, Runs, may_undo}
 use Rattle.iso_history.specs.Looks.{is_current, is_settled, look_asks, may_look, want_asks}
 use Rattle.iso_history.specs.Nexts.{may_next}
 use Rattle.iso_history.specs.Phases.{phase}
+use Rattle.iso_history.specs.Stops.{may_stop}
 use Rattle.iso_pace.specs.Answers.{MayTakeLine}
 use Rattle.iso_history.specs.Requests.{is_row_mode, may_ask, suits, table_mode}
 use Rattle.iso_history.specs.Versions.{committed, is_changed_beside, is_dead, present, slots, versions, view}
 use Rattle.iso_history.specs.World.{World}
-use Rattle.iso_history.specs.Writes.{may_change, may_write}
+use Rattle.iso_history.specs.Writes.{is_block, may_change, may_write}
+use Rattle.iso_history.specs.declared.entry.Act.TheVariants.{Stopped}
+use Rattle.iso_history.specs.declared.entry.Cause.TheVariants.{Memory}
 use Rattle.iso_history.specs.declared.entry.Want.{Want}
 use Rattle.iso_history.specs.declared.entry.Want.TheVariants.{Alter, AlterKept, Current, Dirty, Repeat, Settled, Steady}
-use Rattle.iso_modes.specs.Modes.{at_least}
+use Rattle.iso_history.specs.declared.entry.Who.TheVariants.{Agent}
+use Rattle.iso_modes.specs.Modes.{at_least, mode_eq, mode_number}
 use Rattle.iso_modes.specs.declared.Mode.{Mode}
-use Rattle.iso_modes.specs.declared.Mode.TheVariants.{Ix, Ns, S, U, X}
-use Rattle.iso_queue.specs.Locks.{held, holds_at_least, is_covered}
+use Rattle.iso_modes.specs.declared.Mode.TheVariants.{Ix, Ns, Nw, S, U, X}
+use Rattle.iso_queue.specs.Locks.{held, holds_at_least, is_covered, others_guard}
+use Rattle.iso_queue.specs.Queues.{is_grantable}
 use Rattle.iso_state.proofs.FactsAlong.{sound-of}
+use Rattle.iso_state.proofs.Steps.{conn-is}
 use Rattle.iso_state.specs.Stands.{Content, Stands}
 use Rattle.iso_types.specs.Head.{table_of_index}
 use Rattle.iso_types.specs.Ids.{pair_lt}
 use Rattle.iso_types.specs.Value.{value_eq}
-use Rattle.iso_types.specs.declared.desk.Phase.TheVariants.{Running}
+use Rattle.iso_types.specs.declared.desk.Phase.{Phase}
+use Rattle.iso_types.specs.declared.desk.Phase.TheVariants.{Closing, Running}
 use Rattle.iso_types.specs.declared.head.Head.{Head}
 use Rattle.iso_types.specs.declared.head.Range.{Range}
 use Rattle.iso_types.specs.declared.value.Conn.{Conn}
@@ -70,7 +77,27 @@ runs_by w c running none = (running, go (w.due c) none)
 pub runs_undoes : (w : World) (c : Conn) → Runs w c → may_undo w c ≡ true
 runs_undoes w c r = rw (r.0, r.1) refl
 
--- and answer ROLLBACK
+-- so may who closes
+pub closes_undoes : (w : World) (c : Conn) → phase w c ≡ Closing → is_none (w.due c) ≡ true → may_undo w c ≡ true
+closes_undoes w c closing none = rw (closing, none) refl
+
+-- who runs may stop for want of memory
+running-stops : (head : Head) (w : World) (c : Conn) → phase w c ≡ Running → may_stop head w c Memory ≡ true
+running-stops head w c running = rw running refl
+
+pub runs-stops : (head : Head) (w : World) (c : Conn) → c.0 < length head.conns → phase w c ≡ Running → By head w (Agent c) (Stopped Memory)
+runs-stops head w c there running = (conn-is head c there, running-stops head w c running)
+
+-- so may who waits with no edge
+waiting-stops : (head : Head) (w : World) (c : Conn) → phase w c ≡ Phase.Waiting → is_grantable w.holds w.waits c ≡ true
+    → may_stop head w c Memory ≡ true
+waiting-stops head w c waits free = rw (waits, free) refl
+
+pub waits-stops : (head : Head) (w : World) (c : Conn) → c.0 < length head.conns → phase w c ≡ Phase.Waiting
+    → is_grantable w.holds w.waits c ≡ true → By head w (Agent c) (Stopped Memory)
+waits-stops head w c there waits free = (conn-is head c there, waiting-stops head w c waits free)
+
+-- who runs may answer ROLLBACK
 pub runs_ends : (w : World) (c : Conn) → Runs w c → RollbackStands w c (pos 0) 0 (phase w c)
 runs_ends w c r = subst (RollbackStands w c (pos 0) 0) (sym r.0) (r.1, refl, refl)
 
@@ -81,6 +108,11 @@ line_free head w e = go (least_purgeable head w) e
     go : (o : Option (IndexId × (Value × Rid))) → is_some o ≡ false → (w.pace.stopped || (w.pace.purged || is_none o)) ≡ true
     go None h = or-second w.pace.stopped _ (or-second w.pace.purged true refl)
     go (Some x) h = absurd (cc)
+
+-- a write waits at the end of an index on which another one has a lock
+pub end-blocks : (head : Head) (w : World) (c : Conn) (i : IndexId) → others_guard w.holds c (End i) ≡ true → is_block head w c (End i) Nw ≡ true
+unfolding mode_eq mode_number
+end-blocks head w c i others = rw others refl
 
 module _ (head : Head) (w : World) (c : Conn) (t : TableId) (has : holds_at_least w.holds c (Table t) Ix ≡ true) where
   -- IX on the table is enough for each mode of its rows
@@ -139,17 +171,22 @@ module _ (head : Head) (w : World) (c : Conn) (t : TableId) (has : holds_at_leas
     there range p None e = any-found (λ q. meets_low range.low q.0) (λ q. value_eq q.0 p.0) (entries_of w i) p e (value_same p.0)
     there range p (Some at) e = any-found (pair_lt at) (λ q. value_eq q.0 p.0) (entries_of w i) p e (value_same p.0)
 
-    backed : option_map_or (λ u. holds_at_least w.holds c (Table u) (table_mode S)) (table_of_index head i) true ≡ true
-    backed = rw of (enough S)
+    backed : (m : Mode) → option_map_or (λ u. holds_at_least w.holds c (Table u) (table_mode m)) (table_of_index head i) true ≡ true
+    backed m = rw of (enough m)
 
     name-asked : (range : Range) (after o : Option (Value × Rid)) → found w i range after ≡ o → may_ask head w c (key_name i o) S ≡ true
     unfolding is_row_mode
     name-asked range after None e =
-        let back = or-second (is_covered head w.holds c (End i) S) _ backed in rw (index-there, back) refl
+        let back = or-second (is_covered head w.holds c (End i) S) _ (backed S) in rw (index-there, back) refl
     name-asked range after (Some p) e =
-        let back = or-second (is_covered head w.holds c (Key i p.0) S) _ backed in
+        let back = or-second (is_covered head w.holds c (Key i p.0) S) _ (backed S) in
         let has = there range p after e in
         rw (has, back) refl
+
+    -- the end of the index may be asked for, as a write does
+    pub end-asked : may_ask head w c (End i) Nw ≡ true
+    unfolding is_row_mode
+    end-asked = let back = or-second (is_covered head w.holds c (End i) Nw) _ (backed Nw) in rw (index-there, back) refl
 
     -- a step of a scan of the index
     pub scan-stands : (range : Range) (after : Option (Value × Rid)) (guarded : Bool) → may_next head w c i range after guarded ≡ true

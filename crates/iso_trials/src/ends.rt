@@ -1,7 +1,7 @@
 //! The steps of undos, savepoints, settings, and the ends of statements and units, tried.
 
 use crate::guards::{is_in, is_open, runs};
-use crate::lines::{may_halt, may_roll_back, none_left};
+use crate::lines::{may_halt, may_purge, may_roll_back, may_stop, may_undo, none_left};
 use crate::trial::Trial;
 use iso_ends::{
     back, commit, ended, mark, purge, purgeable, reply, rollback_end, set, stopped, undo_one,
@@ -11,10 +11,9 @@ use iso_types::{Conn, Isolation, Items, Phase, StepFault, Text};
 use std::alloc::Global;
 
 impl Trial {
-    /// Undoes the last record that the unit has left; None where the connection does not run.
-    #[tactic(auto, using(crate::proofs::Known::runs_undoes))]
+    /// Undoes the last record that the unit has left; None where the connection neither runs nor closes.
     pub fn undo_one(&mut self, conn: Conn, floor: u32) -> Option<bool> {
-        if runs(&self.parts, conn) {
+        if may_undo(&self.parts, conn) {
             Some(undo_one(&mut self.parts, conn, floor))
         } else {
             None
@@ -58,6 +57,16 @@ impl Trial {
     pub fn stopped(&mut self) -> bool {
         if may_halt(&self.parts) {
             stopped(&mut self.parts, Who::Dispatcher, Cause::Memory);
+            true
+        } else {
+            false
+        }
+    }
+
+    /// Stops a connection for want of memory; whether it runs, or may have the lock that it awaits.
+    pub fn stopped_by(&mut self, conn: Conn) -> bool {
+        if may_stop(&self.parts, conn) {
+            stopped(&mut self.parts, Who::Agent(conn), Cause::Memory);
             true
         } else {
             false
@@ -110,7 +119,7 @@ impl Trial {
 
     /// Purges the least pair that is purgeable; false where there is none, or none may go now.
     pub fn purge(&mut self) -> Result<bool, StepFault> {
-        if is_open(&self.parts) && !self.parts.pace.stopped && !self.parts.pace.purged {
+        if may_purge(&self.parts) {
             purge(&mut self.parts)
         } else {
             Ok(false)

@@ -1,17 +1,17 @@
 //! What the steps ask for, decided from the state.
 ghost use Rattle.std.specs.Option.{option_map};
 ghost use Rattle.std.specs.Prelude.{◌≡◌, ◌<◌, ◌≤◌, Bool, false, true, length, is_none, is_some, nat_lt, IfSome, IsTrue, Option, Some};
-ghost use Rattle.iso_history.specs.Legal.{Runs};
+ghost use Rattle.iso_history.specs.Legal.{Runs, may_undo};
 ghost use Rattle.iso_history.specs.Looks.{may_look as look_stands};
 ghost use Rattle.iso_history.specs.Nexts.{may_next};
 ghost use Rattle.iso_history.specs.Phases.{phase as phase_in};
 ghost use Rattle.iso_history.specs.Requests.{is_row_mode, is_table_mode, may_ask};
 ghost use Rattle.iso_history.specs.Versions.{present, slots, versions};
-ghost use Rattle.iso_history.specs.Writes.{may_change as change_stands};
+ghost use Rattle.iso_history.specs.Writes.{is_block, may_change as change_stands};
 ghost use Rattle.iso_history.specs.World.Last.{Looked};
 ghost use Rattle.iso_history.specs.declared.entry.Want.{Want as Wanted};
 ghost use Rattle.iso_modes.specs.declared.Mode.TheVariants as modes;
-ghost use Rattle.iso_queue.specs.Locks.{holds_at_least};
+ghost use Rattle.iso_queue.specs.Locks.{holds_at_least, others_guard};
 ghost use Rattle.iso_types.specs.Head.{all_fit as fit, fits_column as fits_in, is_table, row_fits};
 ghost use Rattle.iso_types.specs.declared.head.Range.{Range as Bounds};
 ghost use Rattle.iso_types.specs.declared.value.Name.TheVariants as names;
@@ -21,6 +21,7 @@ ghost use Rattle.iso_state.specs.Stands.{StandsFor, world_of};
 
 use crate::owns::own_of;
 use iso_modes::{Mode, is_same, joined};
+use iso_nextkey::blocked;
 use iso_state::{Parts, desk_of, hold};
 use iso_types::{Column, ColumnKind, Conn, IndexId, Name, Phase, Rid, Row, TableId, Value};
 
@@ -64,6 +65,17 @@ pub fn runs(parts: &Parts, conn: Conn) -> bool
     ensures runs { result ≡ true → Runs (world_of parts.now) conn }
 {
     is_open(parts) && is_in(parts, conn, Phase::Running) && none_due(parts, conn)
+}
+
+/// Whether the connection closes with no Collapse due, and the history is not over.
+#[tactic(auto, using(crate::proofs::Known::closes_undoes))]
+pub fn closes(parts: &Parts, conn: Conn) -> bool
+    requires stands { StandsFor parts.now }
+    ensures open { result ≡ true → (world_of parts.now).pace.finished ≡ false }
+    ensures conn { result ≡ true → conn.0 < length parts.now.head.conns }
+    ensures undoes { result ≡ true → IsTrue (may_undo (world_of parts.now) conn) }
+{
+    is_open(parts) && is_in(parts, conn, Phase::Closing) && none_due(parts, conn)
 }
 
 /// The slot of the last own entry, where that is a granted look.
@@ -125,6 +137,17 @@ fn is_slot(parts: &Parts, table: TableId, rid: Rid) -> bool
     }
 }
 
+/// Whether the rid is that of a slot of the table, or the next one.
+fn is_within(parts: &Parts, table: TableId, rid: Rid) -> bool
+    requires stands { StandsFor parts.now }
+    ensures { result ≡ true → rid.0 ≤ slots (world_of parts.now) table }
+{
+    match parts.tables.get(table.0 as usize) {
+        Some(slots) => rid.0 <= slots.slots(),
+        None => false,
+    }
+}
+
 /// Whether the head has the table.
 fn has_table(parts: &Parts, table: TableId) -> bool
     ensures { result ≡ is_table parts.now.head table }
@@ -169,14 +192,15 @@ pub fn may_lock(parts: &Parts, conn: Conn, name: &Name, mode: Mode) -> bool
     }
 }
 
-/// Whether the connection may look at the slot, whatever it wants of it.
+/// Whether the connection may look at the slot, whatever it wants of it, or behind the last one.
 pub fn may_look(parts: &Parts, conn: Conn, table: TableId, rid: Rid) -> bool
     requires stands { StandsFor parts.now }
     ensures table { result ≡ true → IsTrue (is_table parts.now.head table) }
     ensures rid { result ≡ true → rid.0 ≤ slots (world_of parts.now) table }
-    ensures may { (want : Wanted) → result ≡ true → IsTrue (look_stands parts.now.head (world_of parts.now) conn table rid want) }
+    ensures may { (want : Wanted) → result ≡ true → rid.0 < slots (world_of parts.now) table
+        → IsTrue (look_stands parts.now.head (world_of parts.now) conn table rid want) }
 {
-    has_table(parts, table) && is_slot(parts, table, rid) && holds_table(parts, conn, table)
+    has_table(parts, table) && is_within(parts, table, rid) && holds_table(parts, conn, table)
 }
 
 /// Whether the connection may scan the index, guarded or not.
@@ -189,6 +213,34 @@ pub fn may_scan(parts: &Parts, conn: Conn, index: IndexId) -> bool
         Some(def) => holds_table(parts, conn, def.table),
         None => false,
     }
+}
+
+/// Whether the connection may ask for the end of the index, as a write does that waits there.
+fn may_ask_end(parts: &Parts, conn: Conn, index: IndexId) -> bool
+    requires stands { StandsFor parts.now }
+    ensures { result ≡ true → IsTrue (may_ask parts.now.head (world_of parts.now) conn (names.End index) modes.Nw) }
+{
+    match parts.head.indexes.get(index.0 as usize) {
+        Some(def) => holds_table(parts, conn, def.table),
+        None => false,
+    }
+}
+
+/// Whether another connection's lock on the name is in the way of a new key.
+fn is_guarded(parts: &Parts, conn: Conn, name: &Name) -> bool
+    requires stands { StandsFor parts.now }
+    ensures { result ≡ others_guard (world_of parts.now).holds conn name.now }
+{
+    blocked(&parts.locks, conn, name)
+}
+
+/// Whether a write of the connection may wait at the end of the index, where another connection's lock is in its way.
+pub fn may_block(parts: &Parts, conn: Conn, index: IndexId) -> bool
+    requires stands { StandsFor parts.now }
+    ensures ask { result ≡ true → IsTrue (may_ask parts.now.head (world_of parts.now) conn (names.End index) modes.Nw) }
+    ensures blocks { result ≡ true → IsTrue (is_block parts.now.head (world_of parts.now) conn (names.End index) modes.Nw) }
+{
+    may_ask_end(parts, conn, index) && is_guarded(parts, conn, &Name::End(index))
 }
 
 /// Whether the slot shows a row.

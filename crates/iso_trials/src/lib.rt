@@ -10,6 +10,7 @@ mod lines;
 mod locks;
 mod owns;
 mod pace;
+mod purges;
 mod reads;
 #[cfg(test)]
 mod tests;

@@ -1,17 +1,17 @@
 //! What the steps of the dispatcher, and those that end a unit, ask for, decided from the state.
-ghost use Rattle.std.specs.Prelude.{◌≡◌, ◌<◌, [], false, true, length, pos};
-ghost use Rattle.iso_history.specs.Legal.{By, RollbackStands};
+ghost use Rattle.std.specs.Prelude.{◌≡◌, ◌<◌, [], false, true, length, pos, IsTrue};
+ghost use Rattle.iso_history.specs.Legal.{By, RollbackStands, may_undo as undo_stands};
 ghost use Rattle.iso_history.specs.Phases.{phase as phase_in};
 ghost use Rattle.iso_history.specs.Records.{left_of};
 ghost use Rattle.iso_history.specs.declared.entry.Act.{Act};
 ghost use Rattle.iso_pace.specs.Answers.{MayTakeLine};
 ghost use Rattle.iso_state.specs.Stands.{StandsFor, world_of};
 
-use crate::guards::{is_open, runs};
+use crate::guards::{closes, is_in, is_open, runs};
 use iso_ends::purgeable;
 use iso_history::{Cause, Who};
-use iso_state::Parts;
-use iso_types::Conn;
+use iso_state::{Parts, can_claim};
+use iso_types::{Conn, Phase};
 
 /// Whether the connection has nothing left to undo.
 pub fn none_left(parts: &Parts, conn: Conn) -> bool
@@ -34,6 +34,42 @@ pub fn may_roll_back(parts: &Parts, conn: Conn) -> bool
     runs(parts, conn) && none_left(parts, conn)
 }
 
+/// Whether the connection may take back its last change, since it runs or closes with no Collapse due.
+#[tactic(auto, using(crate::proofs::Known::runs_undoes))]
+pub fn may_undo(parts: &Parts, conn: Conn) -> bool
+    requires stands { StandsFor parts.now }
+    ensures open { result ≡ true → (world_of parts.now).pace.finished ≡ false }
+    ensures conn { result ≡ true → conn.0 < length parts.now.head.conns }
+    ensures undoes { result ≡ true → IsTrue (undo_stands (world_of parts.now) conn) }
+{
+    runs(parts, conn) || closes(parts, conn)
+}
+
+/// Whether the connection runs, and so may stop for want of memory.
+fn stops_running(parts: &Parts, conn: Conn) -> bool
+    requires stands { StandsFor parts.now }
+    ensures { result ≡ true → By parts.now.head (world_of parts.now) (Who.Agent conn) (Act.Stopped Cause.Memory) }
+{
+    is_in(parts, conn, Phase::Running)
+}
+
+/// Whether nothing keeps the connection from the lock that it awaits, so that it may stop for want of memory.
+fn stops_waiting(parts: &Parts, conn: Conn) -> bool
+    requires stands { StandsFor parts.now }
+    ensures { result ≡ true → By parts.now.head (world_of parts.now) (Who.Agent conn) (Act.Stopped Cause.Memory) }
+{
+    is_in(parts, conn, Phase::Waiting) && can_claim(parts, conn)
+}
+
+/// Whether the connection may stop for want of memory.
+pub fn may_stop(parts: &Parts, conn: Conn) -> bool
+    requires stands { StandsFor parts.now }
+    ensures open { result ≡ true → (world_of parts.now).pace.finished ≡ false }
+    ensures may { result ≡ true → By parts.now.head (world_of parts.now) (Who.Agent conn) (Act.Stopped Cause.Memory) }
+{
+    is_open(parts) && (stops_running(parts, conn) || stops_waiting(parts, conn))
+}
+
 /// Whether the dispatcher may stop for want of memory.
 pub fn may_halt(parts: &Parts) -> bool
     requires stands { StandsFor parts.now }
@@ -54,4 +90,14 @@ pub fn takes_line(parts: &Parts) -> bool
         return false;
     }
     is_open(parts)
+}
+
+/// Whether a pair may be purged now, where one is purgeable.
+pub fn may_purge(parts: &Parts) -> bool
+    requires stands { StandsFor parts.now }
+    ensures open { result ≡ true → (world_of parts.now).pace.finished ≡ false }
+    ensures going { result ≡ true → (world_of parts.now).pace.stopped ≡ false }
+    ensures calm { result ≡ true → (world_of parts.now).pace.purged ≡ false }
+{
+    is_open(parts) && !parts.pace.stopped && !parts.pace.purged
 }

@@ -1,11 +1,11 @@
 //! The steps of locks, tried.
 
-use crate::guards::{due_table, is_in, is_open, looked_at, may_lock, runs};
+use crate::guards::{due_table, is_in, is_open, looked_at, may_block, may_lock, runs};
 use crate::trial::Trial;
-use iso_locks::{Answer, StepClaim, claim, collapse, free, lock};
+use iso_locks::{Answer, StepClaim, block, claim, collapse, free, lock};
 use iso_modes::Mode;
 use iso_state::is_fresh_on;
-use iso_types::{Conn, Name, Phase, Rid, StepFault, TableId};
+use iso_types::{Conn, IndexId, Name, Phase, Rid, StepFault, TableId};
 
 impl Trial {
     /// Asks for a lock; None where it may not be asked for.
@@ -17,6 +17,16 @@ impl Trial {
     ) -> Result<Option<Answer>, StepFault> {
         if runs(&self.parts, conn) && may_lock(&self.parts, conn, &name, mode) {
             Ok(Some(lock(&mut self.parts, conn, name, mode)?))
+        } else {
+            Ok(None)
+        }
+    }
+
+    /// Asks for the lock of a write that waits at the end of the index; None where it may not be asked for.
+    pub fn block(&mut self, conn: Conn) -> Result<Option<Answer>, StepFault> {
+        let index = IndexId(0);
+        if runs(&self.parts, conn) && may_block(&self.parts, conn, index) {
+            Ok(Some(block(&mut self.parts, conn, &Name::End(index), Mode::Nw)?))
         } else {
             Ok(None)
         }

@@ -8,7 +8,7 @@ use iso_types::{Conn, IndexId, Range, Rid, StepFault, TableId, Value};
 use std::alloc::Global;
 
 impl Trial {
-    /// Looks at a slot; None where the connection may not.
+    /// Looks at a slot, or behind the last one; None where the connection may not.
     pub fn look(
         &mut self,
         alloc: Global,

@@ -37,6 +37,9 @@ enum Turn {
     Stop,
     Purge,
     IsPurgeable,
+    /// As the two before, by doubts.
+    PurgeAmong,
+    IsPurgeableAmong,
     IsCyclic,
     IsQuiet,
     IsAble(Conn),
@@ -46,6 +49,8 @@ enum Turn {
 #[derive(Clone, Copy)]
 enum Ask {
     Lock(On, Mode),
+    /// The lock of a write that waits at the end of the index.
+    Block,
     Claim,
     Free,
     Collapse,
@@ -81,6 +86,7 @@ enum End {
     Set(Isolation),
     Commit,
     Rollback,
+    Stop,
     Ended,
 }
 
@@ -101,12 +107,15 @@ enum Reply {
     Paced(Option<Paced>),
     Victim(Option<Conn>),
     Closing(Option<Closing>),
+    /// A pair is purged, and whether one is left that is purgeable.
+    Purged(Option<bool>),
     Lock(Option<Answer>),
     Claim(Option<StepClaim>),
     Freed(Option<Rid>),
     Collapsed(Option<TableId>),
     Row(Option<i64>),
     Pinned,
+    EndOfTable,
     Queued,
     At(i64, u32),
     Past,
@@ -120,7 +129,7 @@ enum Reply {
 }
 
 /// Makes a call of the dispatcher.
-fn turned(trial: &mut Trial, turn: Turn) -> Result<Reply, StepFault> {
+fn turned(alloc: Global, trial: &mut Trial, turn: Turn) -> Result<Reply, StepFault> {
     match turn {
         Turn::Dispatch(line, conn, free) => Ok(Reply::Paced(trial.dispatch(line, conn, free)?)),
         Turn::Expire(line, conn) => Ok(Reply::Paced(trial.expire(line, conn)?)),
@@ -130,6 +139,8 @@ fn turned(trial: &mut Trial, turn: Turn) -> Result<Reply, StepFault> {
         Turn::Stop => Ok(Reply::Is(trial.stopped())),
         Turn::Purge => Ok(Reply::Is(trial.purge()?)),
         Turn::IsPurgeable => Ok(Reply::Is(trial.purgeable())),
+        Turn::PurgeAmong => Ok(Reply::Purged(trial.purge_among(alloc)?)),
+        Turn::IsPurgeableAmong => Ok(Reply::Is(trial.purgeable_among(alloc))),
         Turn::IsCyclic => Ok(Reply::Is(trial.cyclic())),
         Turn::IsQuiet => Ok(Reply::Is(trial.quiet())),
         Turn::IsAble(conn) => Ok(Reply::Is(trial.able(conn))),
@@ -148,6 +159,7 @@ fn name_of(on: On) -> Name {
 fn asked(trial: &mut Trial, conn: Conn, ask: Ask) -> Result<Reply, StepFault> {
     match ask {
         Ask::Lock(on, mode) => Ok(Reply::Lock(trial.lock(conn, name_of(on), mode)?)),
+        Ask::Block => Ok(Reply::Lock(trial.block(conn)?)),
         Ask::Claim => Ok(Reply::Claim(trial.claim(conn)?)),
         Ask::Free => Ok(Reply::Freed(trial.free(conn)?)),
         Ask::Collapse => Ok(Reply::Collapsed(trial.collapse(conn)?)),
@@ -167,8 +179,10 @@ fn seen(looked: &Option<Looked>) -> Reply {
     match looked {
         Some(Looked::Shown(Some(row))) => Reply::Row(number_in(row)),
         Some(Looked::Pinned(_)) => Reply::Pinned,
+        Some(Looked::EndOfTable) => Reply::EndOfTable,
         Some(Looked::Queued) => Reply::Queued,
-        _ => Reply::Row(None),
+        Some(_) => Reply::Row(None),
+        None => Reply::NotMade,
     }
 }
 
@@ -279,6 +293,7 @@ fn ended(alloc: Global, trial: &mut Trial, conn: Conn, end: End) -> Result<Reply
         End::Set(level) => Ok(Reply::Is(trial.set(conn, level)?)),
         End::Commit => Ok(Reply::Is(trial.commit(conn))),
         End::Rollback => Ok(Reply::Is(trial.rollback_end(conn))),
+        End::Stop => Ok(Reply::Is(trial.stopped_by(conn))),
         End::Ended => Ok(Reply::Is(trial.ended(conn))),
     }
 }
@@ -286,7 +301,7 @@ fn ended(alloc: Global, trial: &mut Trial, conn: Conn, end: End) -> Result<Reply
 /// Makes a call of a story, whose savepoint has this name.
 fn reply_of(alloc: Global, trial: &mut Trial, step: Step, spot: Text) -> Result<Reply, StepFault> {
     match step {
-        Step::Turn(turn) => turned(trial, turn),
+        Step::Turn(turn) => turned(alloc, trial, turn),
         Step::Ask(conn, ask) => asked(trial, conn, ask),
         Step::Read(conn, what) => reads(alloc, trial, conn, what),
         Step::Change(conn, change) => changed(alloc, trial, conn, change, spot),
@@ -405,7 +420,8 @@ const ONE_UNIT: &[(Step, Reply)] = &[
     (Step::Ask(A, Ask::Claim), Reply::Claim(None)),
 ];
 
-/// The rows are looked at without locks and with them, one lock is given back, and an index is scanned from 15 on.
+/// The rows are looked at without locks and with them, one lock is given back, the table ends behind the last row, and an index
+/// is scanned from 15 on.
 const READS: &[(Step, Reply)] = &[
     (Step::Turn(Turn::Dispatch(1, A, false)), TAKEN),
     (BEGINS, GRANTED),
@@ -441,7 +457,12 @@ const READS: &[(Step, Reply)] = &[
         Reply::Row(Some(30)),
     ),
     (Step::Ask(A, Ask::Free), Reply::Freed(None)),
-    (Step::Read(A, Read::Look(3, Want::Dirty)), Reply::Row(None)),
+    (
+        Step::Read(A, Read::Look(3, Want::Steady)),
+        Reply::EndOfTable,
+    ),
+    (Step::Ask(A, Ask::Free), Reply::Freed(None)),
+    (Step::Read(A, Read::Look(4, Want::Dirty)), Reply::NotMade),
     (Step::Read(A, Read::From(15)), Reply::At(20, 1)),
     (Step::Read(A, Read::Behind(20, 1)), Reply::At(30, 2)),
     (Step::Read(A, Read::Behind(30, 2)), Reply::Past),
@@ -455,7 +476,7 @@ const BESIDE: &[(Step, Reply)] = &[
     (Step::Ask(A, Ask::Lock(On::Row(0), Mode::X)), GRANTED),
     (Step::Change(A, Change::Update(0, 11)), Reply::Done),
     (Step::Turn(Turn::Dispatch(2, B, true)), TAKEN),
-    (Step::Read(B, Read::Look(0, Want::Dirty)), Reply::Row(None)),
+    (Step::Read(B, Read::Look(0, Want::Dirty)), Reply::NotMade),
     (JOINS, GRANTED),
     (
         Step::Read(B, Read::Look(0, Want::Dirty)),
@@ -548,6 +569,111 @@ const LIMIT: &[(Step, Reply)] = &[
     (Step::Ask(A, Ask::Lock(On::Row(2), Mode::X)), GRANTED),
 ];
 
+/// A range is read to the end of the index, and a write waits there; then another one behind it; and an insertion waits for the
+/// key that guards it.
+const GUARDED: &[(Step, Reply)] = &[
+    (Step::Turn(Turn::Dispatch(1, A, false)), TAKEN),
+    (Step::Ask(A, Ask::Block), Reply::Lock(None)),
+    (BEGINS, GRANTED),
+    (Step::Ask(A, Ask::Block), Reply::Lock(None)),
+    (Step::Turn(Turn::Dispatch(2, B, true)), TAKEN),
+    (JOINS, GRANTED),
+    (Step::Read(B, Read::From(31)), Reply::Past),
+    (Step::Ask(B, Ask::Block), Reply::Lock(None)),
+    (Step::Ask(A, Ask::Block), WAITS),
+    (Step::Turn(Turn::IsAble(A)), NO),
+    (Step::End(B, End::Commit), YES),
+    (
+        Step::Ask(A, Ask::Claim),
+        Reply::Claim(Some(StepClaim::Granted)),
+    ),
+    (Step::Turn(Turn::Dispatch(3, B, true)), TAKEN),
+    (JOINS, GRANTED),
+    (Step::Ask(B, Ask::Block), WAITS),
+    (Step::Change(A, Change::Insert(40)), Reply::Done),
+    (
+        Step::Ask(B, Ask::Claim),
+        Reply::Claim(Some(StepClaim::Granted)),
+    ),
+    (Step::Change(B, Change::Insert(50)), Reply::Done),
+    (Step::Read(A, Read::From(15)), Reply::At(20, 1)),
+    (Step::Change(B, Change::Insert(15)), Reply::Blocked(20)),
+    (Step::End(A, End::Commit), YES),
+    (
+        Step::Ask(B, Ask::Claim),
+        Reply::Claim(Some(StepClaim::Granted)),
+    ),
+    (Step::Change(B, Change::Insert(15)), Reply::Done),
+];
+
+/// A row has four keys in one unit, of which another connection holds the first; the others go by doubts once that unit is
+/// committed, and the first once nobody holds it.
+const STALE: &[(Step, Reply)] = &[
+    (Step::Turn(Turn::Dispatch(1, A, false)), TAKEN),
+    (BEGINS, GRANTED),
+    (Step::Change(A, Change::Insert(40)), Reply::Done),
+    (Step::Change(A, Change::Update(3, 50)), Reply::Done),
+    (Step::Change(A, Change::Update(3, 60)), Reply::Done),
+    (Step::Change(A, Change::Update(3, 70)), Reply::Done),
+    (Step::Turn(Turn::Dispatch(2, B, true)), TAKEN),
+    (JOINS, GRANTED),
+    (Step::Read(B, Read::From(35)), Reply::At(40, 3)),
+    (Step::Turn(Turn::IsPurgeableAmong), NO),
+    (Step::Turn(Turn::PurgeAmong), Reply::Purged(None)),
+    (Step::End(A, End::Commit), YES),
+    (Step::Turn(Turn::IsPurgeableAmong), YES),
+    (Step::Turn(Turn::PurgeAmong), Reply::Purged(Some(true))),
+    (Step::Turn(Turn::PurgeAmong), Reply::Purged(None)),
+    (Step::End(B, End::Commit), YES),
+    (
+        Step::Turn(Turn::Close),
+        Reply::Closing(Some(Closing::One(A))),
+    ),
+    (Step::Turn(Turn::PurgeAmong), Reply::Purged(Some(true))),
+    (Step::Turn(Turn::IsPurgeableAmong), YES),
+    (Step::End(A, End::Ended), YES),
+    (
+        Step::Turn(Turn::Close),
+        Reply::Closing(Some(Closing::One(B))),
+    ),
+    (Step::Turn(Turn::PurgeAmong), Reply::Purged(Some(false))),
+    (Step::Turn(Turn::IsPurgeableAmong), NO),
+    (Step::Turn(Turn::IsPurgeable), NO),
+];
+
+/// A connection stops while it runs, and another one when its wait is over; the latter takes its change back, and both end.
+const STOPS: &[(Step, Reply)] = &[
+    (Step::End(A, End::Stop), NO),
+    (Step::Turn(Turn::Dispatch(1, A, false)), TAKEN),
+    (BEGINS, GRANTED),
+    (Step::Change(A, Change::Insert(40)), Reply::Done),
+    (Step::Turn(Turn::Dispatch(2, B, true)), TAKEN),
+    (JOINS, GRANTED),
+    (Step::Ask(B, Ask::Lock(On::Row(0), Mode::X)), GRANTED),
+    (Step::Ask(A, Ask::Lock(On::Row(0), Mode::X)), WAITS),
+    (Step::End(A, End::Stop), NO),
+    (Step::End(B, End::Stop), YES),
+    (Step::End(B, End::Stop), NO),
+    (
+        Step::Turn(Turn::Dispatch(3, B, true)),
+        Reply::Paced(Some(Paced::Stopping)),
+    ),
+    (Step::Turn(Turn::Stop), NO),
+    (Step::End(A, End::Stop), NO),
+    (Step::End(B, End::Ended), YES),
+    (Step::End(A, End::Stop), YES),
+    (Step::Ask(A, Ask::Claim), Reply::Claim(None)),
+    (Step::End(A, End::Ended), NO),
+    (Step::Change(A, Change::Undo(0)), Reply::Undone(Some(true))),
+    (Step::Change(A, Change::Undo(0)), Reply::Undone(Some(false))),
+    (Step::End(A, End::Ended), YES),
+    (
+        Step::Turn(Turn::Close),
+        Reply::Closing(Some(Closing::Finished)),
+    ),
+    (Step::End(A, End::Stop), NO),
+];
+
 #[test]
 fn one_unit(rt: HostRuntime) -> Result<(), Fail> {
     assert_eq!(rt; first_other(rt.alloc(), 100, ONE_UNIT)?, None);
@@ -581,5 +707,23 @@ fn one_that_waits(rt: HostRuntime) -> Result<(), Fail> {
 #[test]
 fn at_the_limit(rt: HostRuntime) -> Result<(), Fail> {
     assert_eq!(rt; first_other(rt.alloc(), 10, LIMIT)?, None);
+    Ok(())
+}
+
+#[test]
+fn guards_of_an_index(rt: HostRuntime) -> Result<(), Fail> {
+    assert_eq!(rt; first_other(rt.alloc(), 100, GUARDED)?, None);
+    Ok(())
+}
+
+#[test]
+fn stale_pairs(rt: HostRuntime) -> Result<(), Fail> {
+    assert_eq!(rt; first_other(rt.alloc(), 100, STALE)?, None);
+    Ok(())
+}
+
+#[test]
+fn connections_that_stop(rt: HostRuntime) -> Result<(), Fail> {
+    assert_eq!(rt; first_other(rt.alloc(), 100, STOPS)?, None);
     Ok(())
 }

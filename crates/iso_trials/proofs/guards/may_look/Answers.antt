@@ -1,16 +1,13 @@
-use Rattle.std.proofs.Common.{◌≡◌, ◌∙◌, sym, true}
+use Rattle.std.proofs.Common.{◌∙◌, sym}
+use Rattle.std.proofs.lemmas.Bool.{lt-ltb}
+use Rattle.iso_history.specs.Versions.{slots}
 use Rattle.iso_state.specs.Stands.{world_of}
 use Rattle.iso_trials.proofs.Known.{look-stands}
-use Rattle.iso_trials.proofs.guards.may_look.Goals.{then-has_table, else-has_table}
 use Rattle.iso_trials.proofs.guards.may_look.Goals as goal
 
-pub returns-then-is_slot-clause-may : goal.returns-then-is_slot-clause-may
-returns-then-is_slot-clause-may c =
+pub returns-then-is_within-clause-may : goal.returns-then-is_within-clause-may
+returns-then-is_within-clause-may c = λ want held there.
     let p = c.args.parts.now in
-    elim c.if-has_table.branch [
-      | then-has_table w ↦
-          let there : w.is_slot.result ≡ true = cc (w.value-is, c.if-is_slot.true) in
-          λ want held. look-stands p.head (world_of p) c.args.conn c.args.table (sym c.holds_table.ensures ∙ held) c.args.rid want
-          (sym w.is_slot.ensures ∙ there)
-      | else-has_table w ↦ absurd (cc (w.value-is, c.if-is_slot.true))
-    ]
+    let r = c.args.rid in
+    look-stands p.head (world_of p) c.args.conn c.args.table (sym c.holds_table.ensures ∙ held) r want
+    (lt-ltb r.0 (slots (world_of p) c.args.table) there)
