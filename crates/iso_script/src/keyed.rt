@@ -1,14 +1,15 @@
 //! What the lines ROW and INDEX stand for, and what is wrong with them: rows, keys and the indexes on them.
 
+ghost use Rattle.std.specs.List.{list_any};
 ghost use Rattle.std.specs.Prelude.{◌≡◌, ◌&&◌, length, nat_le, IfOk};
 ghost use Rattle.iso_sql.specs.Names.{names_of};
 ghost use Rattle.iso_sql.specs.Rows.{stored_row as stored};
-ghost use Rattle.iso_script.specs.Kept.{IsKept};
+ghost use Rattle.iso_script.specs.Kept.{IsKept, finds_key as finds};
 ghost use Rattle.iso_script.specs.Keyed as spec;
 
 use crate::event::Event;
 use crate::events::whole_line;
-use crate::keys::{Keys, add_value, has_value};
+use crate::keys::{Keys, add_value, has_value, key_at};
 use crate::naming::{declared_fault, has_index, named};
 use crate::progress::Progress;
 use crate::words::{IndexWords, RowWords};
@@ -17,44 +18,32 @@ use iso_sql::{Scope, place_in, scope_of, stored_fault, stored_row, table_of};
 use iso_types::{Column, FirstRow, Head, IndexDef, Memory, TableId, Value};
 use std::alloc::Global;
 
-fn key_at(column: u8, row: &[Value]) -> Value
-    ensures { result ≡ spec.key_at column row.now }
-{
-    match row.get(column as usize) {
-        Some(value) => *value,
-        None => Value::Null,
-    }
-}
-
-fn has_key(progress: &Progress, table: TableId, column: u8, value: &Value) -> bool
-    requires kept { IsKept progress.now }
-    ensures { result ≡ spec.has_key table column value.now progress.now.reader.script.head.rows }
-{
-    has_value(&progress.keys, table, column as usize, value)
-}
-
-fn repeats_key(progress: &Progress, table: TableId, row: &[Value], index: &IndexDef) -> bool
-    requires kept { IsKept progress.now }
-    ensures { result ≡ spec.repeats_key progress.now.reader.script.head.rows table row.now index.now }
+fn finds_key(keys: &Keys, table: TableId, row: &[Value], index: &IndexDef) -> bool
+    ensures { result ≡ finds keys.now.keys table row.now index.now }
 {
     index.unique
         && (index.table.0 == table.0
-            && has_key(progress, table, index.column, &key_at(index.column, row)))
+            && has_value(keys, table, index.column, &key_at(index.column, row)))
 }
 
-#[tactic(auto, unfolding(crate::specs::Keyed::repeats_keys))]
-fn repeats_keys(progress: &Progress, table: TableId, row: &[Value]) -> bool
-    requires kept { IsKept progress.now }
-    ensures { result ≡ spec.repeats_keys progress.now.reader.script.head table row.now }
+fn finds_keys(keys: &Keys, table: TableId, row: &[Value], mut indexes: &[IndexDef]) -> bool
+    ensures { result ≡ list_any (finds keys.now.keys table row.now) indexes.entry.now }
 {
-    let mut indexes = progress.reader.script.head.indexes.as_slice();
     while let [index, rest @ ..] = indexes {
-        if repeats_key(progress, table, row, index) {
+        if finds_key(keys, table, row, index) {
             return true;
         }
         indexes = rest;
     }
     false
+}
+
+fn repeats_keys(progress: &Progress, table: TableId, row: &[Value]) -> bool
+    requires kept { IsKept progress.now }
+    ensures { result ≡ spec.repeats_keys progress.now.reader.script.head table row.now }
+{
+    let indexes = progress.reader.script.head.indexes.as_slice();
+    finds_keys(&progress.keys, table, row, indexes)
 }
 
 fn is_full(progress: &Progress, table: TableId) -> bool
@@ -115,8 +104,8 @@ fn row_fault(
     }
 }
 
-/// A ROW line with these values. `Memory` is want of memory for them. Cost: the logarithm of the number of values so far
-/// for each unique index of the table; else the length of the line, the names of tables, and the number of indexes.
+/// A ROW line with these values. `Memory` is want of memory for them. Cost: on average a constant time for each unique
+/// index of the table; else the length of the line, the names of tables, and the number of indexes.
 #[tactic(auto, unfolding(crate::specs::Keyed::rowed, iso_sql::specs::Names::table_names))]
 pub fn rowed(
     alloc: Global,
@@ -151,10 +140,10 @@ fn has_twice(
     while let [first, rest @ ..] = rows {
         if first.table.0 == table.0 {
             let key = key_at(column, first.row.as_slice());
-            if has_value(&seen, table, column as usize, &key) {
+            if has_value(&seen, table, column, &key) {
                 return Ok(true);
             }
-            add_value(&mut seen, table, column as usize, &key)?;
+            add_value(&mut seen, table, column, &key)?;
         }
         rows = rest;
     }
@@ -268,7 +257,7 @@ fn place_fault(
 }
 
 /// An INDEX line. `Memory` is want of memory for the keys of the rows. Cost: where it is UNIQUE, one look at each row,
-/// and for each of the table the logarithm of their number; else the length of the line, and the names declared.
+/// and on average a constant time for each of the table; else the length of the line, and the names declared.
 #[tactic(auto, unfolding(crate::specs::Keyed::indexed))]
 pub fn indexed(
     alloc: Global,

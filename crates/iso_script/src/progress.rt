@@ -1,25 +1,24 @@
 //! A script so far, with what is kept beside it so that a line need not look through the lines before it.
 
-ghost use Rattle.std.specs.Prelude.{◌≡◌, ◌<◌, ◌^◌, ◌+◌, ◌++◌, List, [], length, OnOk};
-ghost use Rattle.iso_types.specs.declared.head.FirstRow.{FirstRow as First};
+ghost use Rattle.std.specs.Prelude.{◌≡◌, ◌<◌, ◌^◌, ◌+◌, [], length, OnOk};
 ghost use Rattle.iso_grammar.specs.Grammar.{Answers};
 ghost use Rattle.iso_grammar.specs.Lex.{tokens};
 ghost use Rattle.iso_script.specs.Advance as step;
-ghost use Rattle.iso_script.specs.Kept.{HoldsKeys, IsCounted, IsKept, counted, own_row, own_table as own, with_row as more};
+ghost use Rattle.iso_script.specs.Kept.{HoldsKeys, IsCounted, IsKept, counted, indexes_with, own_table as own, rows_with, with_row as more};
 ghost use Rattle.iso_script.specs.Reading as spec;
 ghost use Rattle.iso_script.specs.Rules as rule;
 ghost use Rattle.iso_script.specs.Steps.{EventAnswers, LineAnswers};
 
 use crate::event::Event;
 use crate::fault::{LineCause, ScriptFault};
-use crate::keys::{Keys, add_row};
+use crate::keys::{Keys, add_index, add_row};
 use crate::reader::{Reader, verdict};
 use crate::rules::whole_line;
 use iso_grammar::{Checked, ReadError, Token, Tokens, is_comment, place_of, tokens_of};
-use iso_types::{Memory, TableId};
+use iso_types::{Head, Memory, TableId};
 use std::alloc::Global;
 
-/// A script so far, with the number of rows of each table, counted to 65,536, and the keys of all rows.
+/// A script so far, with the number of rows of each table, counted to 65,536, and the keys of rows under unique indexes.
 #[derive(Drop)]
 pub struct Progress {
     pub reader: Reader,
@@ -61,16 +60,17 @@ fn no_rows() -> [u32; 256]
 }
 
 fn no_keys(alloc: Global) -> Keys
-    ensures { HoldsKeys result [] }
+    ensures { HoldsKeys result.keys [] [] }
 {
     Keys::new(alloc)
 }
 
-fn add_keys(keys: &mut Keys, event: &Event) -> Result<(), Memory>
-    ensures { OnOk result ((rows : List First) → HoldsKeys keys.old rows → HoldsKeys keys.new (rows ++ own_row event.now)) }
+fn add_keys(keys: &mut Keys, head: &Head, event: &Event) -> Result<(), Memory>
+    ensures { OnOk result (HoldsKeys keys.old.keys head.now.indexes head.now.rows → HoldsKeys keys.new.keys (indexes_with event.now head.now.indexes) (rows_with event.now head.now.rows)) }
 {
     match event {
-        Event::Row(first) => add_row(keys, first),
+        Event::Index(index) => add_index(keys, head.rows.as_slice(), index),
+        Event::Row(first) => add_row(keys, head.indexes.as_slice(), first),
         _ => Ok(()),
     }
 }
@@ -89,14 +89,15 @@ impl Progress {
     }
 
     /// Takes the event of the line with this number; after `Memory` it stands anywhere. Cost: that of one entry at the
-    /// end of a list, and for a row the logarithm of the number of values so far, for each of its values.
+    /// end of a list, for a row on average a constant time for each unique index of its table, and for a unique index for each
+    /// row of its table.
     pub fn advance(&mut self, number: u32, event: Event) -> Result<(), Memory>
         requires kept { IsKept self.old }
         ensures step { OnOk result (self.new.reader ≡ step.advance self.old.reader number event) }
         ensures kept { OnOk result (IsKept self.new) }
     {
         let table = own_table(&event);
-        add_keys(&mut self.keys, &event)?;
+        add_keys(&mut self.keys, &self.reader.script.head, &event)?;
         self.reader.advance(number, event)?;
         self.counts = with_row(self.counts, table);
         Ok(())

@@ -52,9 +52,9 @@ impl Script {
     /// index stands on a NOT NULL column and no unique one has a key twice; each statement is one that the head allows, by a
     /// connection of the head; the numbers of the lines rise.
     ///
-    /// Cost: one pass over the bytes, a look for each name among those that were declared, and for each value of
-    /// a row the logarithm of the number of values before it; a UNIQUE INDEX line takes one look at each row before it.
-    /// Until the end, values of rows stand in memory twice. The form is this project's own.
+    /// Cost: one pass over the bytes, a look for each name among those that were declared, for each row a look at each index,
+    /// and on average a constant time for each unique one of its table; a UNIQUE INDEX line takes two looks at each row before
+    /// it. Until the end, values under unique indexes stand in memory twice. The form is this project's own.
     pub fn read(alloc: Global, bytes: &[u8]) -> Result<Script, ScriptFault>
         requires { length bytes.now ≤ 1048576 }
         ensures read { IfOk result (λ s. spec.reads bytes.now s) }

@@ -1,8 +1,8 @@
-use Rattle.std.proofs.Common.{◌||◌, ◌∙◌, Bool, length, ap, arith}
-use Rattle.iso_script.specs.Kept.{has_value}
-use Rattle.iso_script.proofs.KeyLaws.{row_ends}
+use Rattle.std.proofs.Common.{◌∙◌}
+use Rattle.iso_script.proofs.KeyLaws.{index_on}
 use Rattle.iso_script.proofs.keys.add_row.Goals as goal
 
-pub returns : goal.returns
-returns c = λ t column v. c.loop-column.invariant t column v
-    ∙ ap (λ (b : Bool). b || has_value c.args.keys.now t column v) (row_ends c.args.first.now c.loop-column.column (omega (arith, ap length c.as_slice-row.ensures)) t column v)
+pub loop-indexes-preserved : goal.loop-indexes-preserved
+loop-indexes-preserved c t column v =
+    index_on c.loop-indexes.keys.keys c.add_key.new.keys.keys c.args.first.now c.index-item.result c.loop-indexes.indexes.now c.in_ok-add_key.ensures c.in-len1-up.len_at_least c.index-item.is t column v
+    ∙ c.loop-indexes.invariant t column v
