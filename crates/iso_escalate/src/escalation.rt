@@ -12,8 +12,8 @@ use iso_locklist::LockList;
 use iso_types::{Conn, Head, TableId};
 
 /// The table on which the connection has the most row and key holds that are not Brief, at least one; of equal tables that
-/// with the lowest number. `None`: it has none on any table. It takes no memory. Its cost is that of a weight for each
-/// table of the head. Db2 LUW, 'Lock escalation'; the choice among tables is this project's own.
+/// with the lowest number. `None`: it has none on any table. It takes no memory. Its cost is the number of
+/// tables of the head. Db2 LUW, 'Lock escalation'; the choice among tables is this project's own.
 pub fn choose(locks: &LockList, head: &Head, conn: Conn) -> Option<TableId>
     requires conn { conn.0 < 32 }
     requires tables { length head.now.tables ≤ 16 }

@@ -9,9 +9,13 @@ pub mod Loose
 pub mod Waiting
 pub mod Counted
 pub mod Same
+pub mod TotalOrder
+pub mod Ordered
 pub mod Worked
 pub mod Pruned
 pub mod Sums
 pub mod Walked
 pub mod Weighed
+pub mod Weighing
+pub mod Long
 pub mod Whole

@@ -1,5 +1,7 @@
 -- What a release leaves, and where names stand in a list.
-use Rattle.iso_lines.specs.Locks.{AreIdle, IsLocks, counts_below, names_at}
+use Rattle.iso_lines.specs.Locks.{counts_below, names_at}
+use Rattle.iso_lines.specs.Registers.{AreIdle, IsLocks}
+use Rattle.iso_lines.specs.Weighs.{IsBlank, IsWeighed, weighs}
 use Rattle.iso_lines.specs.Locks.{is_at_hand}
 use Rattle.iso_lines.specs.declared.desk.Desk.{Desk}
 use Rattle.std.proofs.Common.{if◌then◌else◌, length, ◌++◌, ◌≡◌, ◌<◌, ℕ, zero, suc, Bool, true, false, not, ◌||◌, List, [], ◌∷◌, Some, is_some, filter, slice_get, slice_index_or, refl, sym, ap, subst, ◌∙◌, true≢false, arith}
@@ -8,6 +10,8 @@ use Rattle.std.specs.Map.{keys_of, lookup}
 use Rattle.iso_queue.specs.Lines.{Line, is_touched, is_waiter}
 use Rattle.iso_types.specs.declared.value.Conn.{Conn}
 use Rattle.iso_types.specs.declared.value.Name.{Name}
+use Rattle.iso_types.specs.declared.value.TableId.{TableId}
+use Rattle.std.specs.Prelude.{count_by}
 use Rattle.iso_lines.proofs.Parts.{kept, of_hold, of_waiter, or_none, touched_any}
 use Rattle.iso_lines.proofs.Touched.{no_some, same_some}
 use Rattle.iso_lines.specs.Named.{Named, key_of, line_of, nobody, released, same}
@@ -47,19 +51,30 @@ stands_within (x ∷ xs) zero lt = (x, refl)
 stands_within (x ∷ xs) (suc i) lt = stands_within xs i (omega (arith, lt))
 
 -- desks without a name, with one more
-pub idle_push : (ds : List Desk) (d : Desk) → AreIdle ds → d.names.entries ≡ [] → AreIdle (ds ++ d ∷ [])
-idle_push [] d idle none = (none, tt)
-idle_push (e ∷ ds) d idle none = (idle.0, idle_push ds d idle.1 none)
+pub idle_push : (ds : List Desk) (d : Desk) → AreIdle ds → d.names.entries ≡ [] → IsBlank d.weights.items → AreIdle (ds ++ d ∷ [])
+idle_push [] d idle none blank = (none, blank, tt)
+idle_push (e ∷ ds) d idle none blank = (idle.0, idle.1, idle_push ds d idle.2 none blank)
 
 pub idle_at : (ds : List Desk) (i : ℕ) (d : Desk) → AreIdle ds → slice_get ds i ≡ Some d → d.names.entries ≡ []
 idle_at [] i d idle e = absurd (no_some e)
 idle_at (x ∷ ds) zero d idle e = ap (λ (y : Desk). y.names.entries) (sym (same_some e)) ∙ idle.0
-idle_at (x ∷ ds) (suc i) d idle e = idle_at ds i d idle.1 e
+idle_at (x ∷ ds) (suc i) d idle e = idle_at ds i d idle.2 e
+
+blank_at : (ds : List Desk) (i : ℕ) (d : Desk) → AreIdle ds → slice_get ds i ≡ Some d → IsBlank d.weights.items
+blank_at [] i d idle e = absurd (no_some e)
+blank_at (x ∷ ds) zero d idle e = subst (λ (y : Desk). IsBlank y.weights.items) (same_some e) idle.1
+blank_at (x ∷ ds) (suc i) d idle e = blank_at ds i d idle.2 e
+
+blank_weighed : (tables : List TableId) (lines : Named) (c : Conn) (es : List (Name × ℕ)) (ws : List ℕ) → es ≡ [] → IsBlank ws → IsWeighed tables lines c es ws
+blank_weighed tables lines c es ws none blank = record {
+  size = blank.size;
+  weights = λ t within. blank.none t ∙ sym (ap (λ (fs : List (Name × ℕ)). count_by (λ e. weighs tables c t e.0 (line_of lines e.0)) fs) none);
+}
 
 idle_row : (ds : List Desk) → AreIdle ds → (k : ℕ) → length (slice_index_or (names_at ds) k []) ≡ 0
 idle_row [] idle k = refl
 idle_row (d ∷ ds) idle zero = ap (λ (l : List (Name × ℕ)). length l) idle.0
-idle_row (d ∷ ds) idle (suc k) = idle_row ds idle.1 k
+idle_row (d ∷ ds) idle (suc k) = idle_row ds idle.2 k
 
 idle_count : (ds : List Desk) → AreIdle ds → (k : ℕ) → counts_below (names_at ds) k ≡ 0
 idle_count ds idle zero = refl
@@ -70,8 +85,8 @@ unfolding IsDistinct
 distinct_none = tt
 
 -- where nobody has a name, and each line is empty
-pub seated-none : (lines : Named) (ds : List Desk) → length ds ≡ 32 → AreIdle ds → ((n : Name) → line_of lines n ≡ nobody) → IsLocks lines ds 0
-seated-none lines ds size idle none = record {
+pub seated-none : (tables : List TableId) (lines : Named) (ds : List Desk) → length ds ≡ 32 → AreIdle ds → ((n : Name) → line_of lines n ≡ nobody) → IsLocks lines ds 0 tables
+seated-none tables lines ds size idle none = record {
   size = size;
   seated = λ c d g. record {
     touched = λ n. ap (λ es. is_some (key_of es n)) (idle_at ds c d idle g) ∙ ap (λ l. is_touched l (record { 0 = c })) (sym (none n));
@@ -79,6 +94,7 @@ seated-none lines ds size idle none = record {
     waiting = λ n h. absurd (true≢false (sym h ∙ ap (λ (l : Line). is_waiter l.waiters (record { 0 = c })) (none n)));
   };
   unique = λ c d g. subst (λ (es : List (Name × ℕ)). IsDistinct same (keys_of es)) (sym (idle_at ds c d idle g)) distinct_none;
+  weighed = λ c d g. blank_weighed tables lines (record { 0 = c }) d.names.entries d.weights.items (idle_at ds c d idle g) (blank_at ds c d idle g);
   beyond = λ c le n. ap (λ l. is_touched l (record { 0 = c })) (none n);
   all = sym (idle_count ds idle 32);
 }

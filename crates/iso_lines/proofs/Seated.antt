@@ -2,13 +2,17 @@
 use Rattle.std.proofs.Common.{◌<◌, ◌≤◌, arith, Result, Ok, Err, OnErr, map, slice_index_or, ◌≡◌, ◌≢◌, ◌⊎◌, ℕ, zero, suc, Bool, true, false, List, [], ◌∷◌, Some, is_some, slice_get, slice_set, refl, sym, ap, subst, ◌∙◌, inl, inr}
 use Rattle.std.proofs.lemmas.Bool.Decides.{eqb_tells}
 use Rattle.std.proofs.lemmas.List.{length-set}
-use Rattle.iso_queue.specs.Lines.{Line, is_touched, is_waiter}
+use Rattle.iso_queue.specs.Lines.{Line, hold_of, is_touched, is_waiter}
 use Rattle.iso_types.specs.Ids.{conn_eq, name_eq}
 use Rattle.iso_types.specs.declared.value.Conn.{Conn}
 use Rattle.iso_types.specs.declared.value.Name.{Name}
+use Rattle.iso_types.specs.declared.value.TableId.{TableId}
 use Rattle.iso_lines.proofs.Tests.{same_names}
 use Rattle.iso_lines.proofs.Touched.{key_like, same_some, no_some}
-use Rattle.iso_lines.specs.Locks.{IsLocks, IsSeated, counts_below, is_at_hand, names_at}
+use Rattle.iso_lines.proofs.Weighing.{weighed_rests}
+use Rattle.iso_lines.specs.Locks.{IsSeated, counts_below, is_at_hand, names_at}
+use Rattle.iso_lines.specs.Registers.{IsLocks}
+use Rattle.iso_lines.specs.Weighs.{IsWeighed, is_long}
 use Rattle.iso_lines.specs.Named.{Named, key_of, line_of, nobody, line_under, same}
 use Rattle.iso_lines.specs.declared.desk.Desk.{Desk}
 use Rattle.std.specs.List.{IsDistinct}
@@ -36,17 +40,19 @@ line_like l n m e = ap (λ o. option_map_or (line_under l.slots) o nobody) (key_
 abbrev pub conn : ℕ → Conn
 conn c = record { 0 = c }
 
--- what a line keeps of a connection: it is touched as before, and nothing of it is at hand or waits that did not
+-- what a line keeps of a connection: it is touched and weighs as before, and nothing of it is at hand or waits that did not
 pub record Rests (q r : Line) (d : Conn) : Type 0 where
   pub touched : is_touched r d ≡ is_touched q d
   pub at_hand : is_at_hand d r ≡ true → is_at_hand d q ≡ true
   pub waiting : is_waiter r.waiters d ≡ true → is_waiter q.waiters d ≡ true
+  pub long : is_long (hold_of r.holders d) ≡ is_long (hold_of q.holders d)
 
 pub rests_same : (q r : Line) (d : Conn) → r ≡ q → Rests q r d
 rests_same q r d e = record {
   touched = ap (λ l. is_touched l d) e;
   at_hand = λ h. ap (is_at_hand d) (sym e) ∙ h;
   waiting = λ h. ap (λ (l : Line). is_waiter l.waiters d) (sym e) ∙ h;
+  long = ap (λ (l : Line). is_long (hold_of l.holders d)) e;
 }
 
 -- the lines of all names keep it where one name's line does and all others stay
@@ -57,6 +63,15 @@ rests_one lines new n others d here m = by (name_eq n m) refl
     by : (b : Bool) → name_eq n m ≡ b → Rests (line_of lines m) (line_of new m) d
     by true e = subst (λ (q : Line). Rests q (line_of new m) d) (line_like lines n m e) (subst (λ (r : Line). Rests (line_of lines n) r d) (line_like new n m e) here)
     by false e = rests_same (line_of lines m) (line_of new m) d (others m e)
+
+-- whoever touches a line touched it, where one name's line has nobody new and all others stay
+pub touched_back : (lines new : Named) (n : Name) (c : Conn) → ((m : Name) → name_eq n m ≡ false → line_of new m ≡ line_of lines m)
+    → (is_touched (line_of new n) c ≡ true → is_touched (line_of lines n) c ≡ true) → (m : Name) → is_touched (line_of new m) c ≡ true → is_touched (line_of lines m) c ≡ true
+touched_back lines new n c others own m h = by (name_eq n m) refl
+  where
+    by : (b : Bool) → name_eq n m ≡ b → is_touched (line_of lines m) c ≡ true
+    by true e = ap (λ (l : Line). is_touched l c) (sym (line_like lines n m e)) ∙ own (ap (λ (l : Line). is_touched l c) (line_like new n m e) ∙ h)
+    by false e = ap (λ (l : Line). is_touched l c) (sym (others m e)) ∙ h
 
 -- one connection's desk is as it should be after a change of one name's line
 module _ (lines new : Named) (c : Conn) (old desk : Desk) (inv : IsSeated lines c old) (n : Name)
@@ -100,7 +115,8 @@ module _ (lines new : Named) (c : Conn) (old desk : Desk) (inv : IsSeated lines 
   seated-one = record { touched = own_touched; at_hand = own_loose; waiting = own_wait }
 
 -- all desks are, where that of the connection is and the lines keep what they have of all others
-module _ (lines new : Named) (desks : List Desk) (total : ℕ) (inv : IsLocks lines desks total) (c : ℕ) (desk : Desk) (own : IsSeated new (conn c) desk)
+module _ (lines new : Named) (desks : List Desk) (total : ℕ) (tables : List TableId) (inv : IsLocks lines desks total tables) (c : ℕ) (desk : Desk) (own : IsSeated new (conn c) desk)
+    (weights : IsWeighed tables new (conn c) desk.names.entries desk.weights.items)
     (once : IsDistinct same (keys_of desk.names.entries))
     (within : c < 32) (rest : (d : Conn) → conn_eq (conn c) d ≡ false → (n : Name) → Rests (line_of lines n) (line_of new n) d) where
   one_seated : (e : ℕ) (d : Desk) → slice_get (slice_set desks c desk) e ≡ Some d → IsSeated new (conn e) d
@@ -127,14 +143,25 @@ module _ (lines new : Named) (desks : List Desk) (total : ℕ) (inv : IsLocks li
         | inr y ↦ inv.unique e d (sym (set_there desks c e desk y.1) ∙ g)
       ]
 
+  one_weighed : (e : ℕ) (d : Desk) → slice_get (slice_set desks c desk) e ≡ Some d → IsWeighed tables new (conn e) d.names.entries d.weights.items
+  one_weighed e d g =
+      elim (eqb_tells c e) [
+        | inl y ↦
+            let here : slice_get (slice_set desks c desk) c ≡ Some d = subst (λ i. slice_get (slice_set desks c desk) i ≡ Some d) (sym y.1) g in
+            subst (λ (i : ℕ). IsWeighed tables new (conn i) d.names.entries d.weights.items) y.1
+            (subst (λ (x : Desk). IsWeighed tables new (conn c) x.names.entries x.weights.items) (sym (set_here desks c desk d here)) weights)
+        | inr y ↦
+            weighed_rests tables (conn e) lines new d.names.entries d.weights.items (inv.weighed e d (sym (set_there desks c e desk y.1) ∙ g)) (λ n. (rest (conn e) y.0 n).long)
+      ]
+
   one_beyond : (e : ℕ) → 32 ≤ e → (n : Name) → is_touched (line_of new n) (conn e) ≡ false
   one_beyond e le n = elim (eqb_tells c e) [
     | inl y ↦ absurd (omega (arith, le, within, y.1))
     | inr y ↦ (rest (conn e) y.0 n).touched ∙ inv.beyond e le n
   ]
 
-  pub seated-all : (now : ℕ) → now ≡ counts_below (names_at (slice_set desks c desk)) 32 → IsLocks new (slice_set desks c desk) now
-  seated-all now all = record { size = length-set desks c desk ∙ inv.size; seated = one_seated; unique = one_unique; beyond = one_beyond; all = all }
+  pub seated-all : (now : ℕ) → now ≡ counts_below (names_at (slice_set desks c desk)) 32 → IsLocks new (slice_set desks c desk) now tables
+  seated-all now all = record { size = length-set desks c desk ∙ inv.size; seated = one_seated; unique = one_unique; weighed = one_weighed; beyond = one_beyond; all = all }
 
 -- a desk whose names are the same
 pub seated-like : (lines new : Named) (c : Conn) (old desk : Desk) → IsSeated lines c old → new ≡ lines → desk.names.entries ≡ old.names.entries

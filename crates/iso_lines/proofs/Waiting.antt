@@ -1,5 +1,5 @@
 -- Who waits in a line after a call, and what it keeps of other connections.
-use Rattle.std.proofs.Common.{◌≡◌, Bool, true, false, not, ◌||◌, List, Option, None, Some, refl, sym, ◌∙◌, if◌then◌else◌, true≢false}
+use Rattle.std.proofs.Common.{◌≡◌, Bool, true, false, not, ◌||◌, List, Option, None, Some, refl, sym, ap, ◌∙◌, if◌then◌else◌, true≢false}
 use Rattle.std.specs.Option.{option_map_or}
 use Rattle.iso_modes.specs.declared.Mode.{Mode}
 use Rattle.iso_modes.specs.declared.Term.{Term}
@@ -9,11 +9,13 @@ use Rattle.iso_types.specs.Ids.{conn_eq}
 use Rattle.iso_types.specs.declared.value.Conn.{Conn}
 use Rattle.iso_types.specs.declared.value.TableId.{TableId}
 use Rattle.iso_types.specs.declared.value.Name.{Name}
+use Rattle.iso_lines.proofs.Long.{asked_long, changed_long}
 use Rattle.iso_lines.proofs.Loose.{any_left, changed_at_hand, far_request}
 use Rattle.iso_lines.proofs.Parts.{asked_other, changed_other, of_waiter, queued_other, some_found}
 use Rattle.iso_lines.proofs.Seated.{Rests, rests_same}
 use Rattle.iso_lines.specs.Named.{changed}
 use Rattle.iso_lines.specs.Tasks.{change_on, done_by, worked}
+use Rattle.iso_lines.specs.Weighs.{is_long}
 use Rattle.iso_lines.specs.declared.lines.Change.{Change}
 use Rattle.iso_lines.specs.declared.tasks.Task.{Task}
 
@@ -56,6 +58,7 @@ asked_rests q c m t d apart = record {
   touched = asked_other q c m t d apart;
   at_hand = far_request q c m t d apart;
   waiting = asked_waits q c m t d apart (is_granted q c m);
+  long = ap is_long (asked_long c d apart q m t);
 }
 
 -- what a change leaves of another connection
@@ -64,6 +67,7 @@ changed_rests change q c d apart = record {
   touched = changed_other change q c d apart;
   at_hand = changed_at_hand change q c d;
   waiting = changed_waiting change q c d;
+  long = ap is_long (changed_long c d apart change q);
 }
 
 done_rests : (o : Option Change) (q : Line) (c d : Conn) → conn_eq c d ≡ false → Rests q (done_by o c q) d

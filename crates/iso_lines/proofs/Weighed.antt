@@ -27,8 +27,8 @@ implied true b h = h refl
 implied false b h = refl
 
 module _ (es : List (Name × ℕ)) (w : Name → Bool) (unique : IsDistinct same (keys_of es)) (there : (n : Name) → w n ≡ true → is_some (key_of es n) ≡ true) where
-  members : (n : Name) → is_some (key_of (filter (λ (e : Name × ℕ). w e.0) es) n) ≡ w n
-  members n =
+  pub weighed_members : (n : Name) → is_some (key_of (filter (λ (e : Name × ℕ). w e.0) es) n) ≡ w n
+  weighed_members n =
       is_some-lookup (same n) (filter (λ (e : Name × ℕ). w e.0) es)
       ∙ ap (list_any (same n)) (keys_left w es)
       ∙ any-filter_same (same n) w (w n) (λ k e. ap w (sym (name_is n k (sym (same_names n k) ∙ e)))) (keys_of es)
@@ -37,4 +37,4 @@ module _ (es : List (Name × ℕ)) (w : Name → Bool) (unique : IsDistinct same
   pub weighed_names : (ns : List Name) → IsDistinct name_eq ns → ((n : Name) → list_any (name_eq n) ns ≡ w n) → count_by (λ (e : Name × ℕ). w e.0) es ≡ length ns
   weighed_names ns distinct passing =
       sym (length-filter (λ (e : Name × ℕ). w e.0) es)
-      ∙ counted_names (filter (λ (e : Name × ℕ). w e.0) es) (IsDistinct-keys_filter same (λ (e : Name × ℕ). w e.0) es unique) ns distinct (λ n. members n ∙ sym (passing n))
+      ∙ counted_names (filter (λ (e : Name × ℕ). w e.0) es) (IsDistinct-keys_filter same (λ (e : Name × ℕ). w e.0) es unique) ns distinct (λ n. weighed_members n ∙ sym (passing n))

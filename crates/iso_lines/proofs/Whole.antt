@@ -1,5 +1,5 @@
 -- Which names stand in the index, and in what order: those that somebody holds or awaits; a new one stands last.
-use Rattle.std.proofs.Common.{◌≡◌, ◌∙◌, ◌-◌, ◌+◌, ◌<◌, ℕ, Bool, true, false, ◌||◌, List, [], ◌∷◌, ◌++◌, Option, None, Some, is_some, length, take, refl, ap, sym, true≢false, arith}
+use Rattle.std.proofs.Common.{◌≡◌, ◌∙◌, ◌-◌, ◌+◌, ℕ, Bool, true, false, ◌||◌, List, [], ◌∷◌, ◌++◌, Option, None, Some, is_some, length, take, refl, ap, sym, true≢false, arith}
 use Rattle.std.specs.List.{IsDistinct, list_any, swap_remove}
 use Rattle.std.specs.Map.{keys_of}
 use Rattle.std.specs.Option.{option_map, option_map_or}
@@ -17,7 +17,7 @@ use Rattle.iso_types.specs.declared.value.Name.{Name}
 use Rattle.iso_queue.specs.Lines.{Line, is_holder, is_touched, is_used, is_waiter}
 use Rattle.iso_queue.specs.declared.types.Hold.{Hold}
 use Rattle.iso_queue.specs.declared.types.Waiter.{Waiter}
-use Rattle.iso_lines.specs.Named.{IsNamed, IsWhole, Named, key_of, kept, line_of, line_under, nobody, same}
+use Rattle.iso_lines.specs.Named.{IsNamed, IsWhole, Named, key_of, line_of, line_under, nobody, same}
 use Rattle.iso_lines.proofs.Names.{name_same}
 use Rattle.iso_lines.proofs.Tests.{same_names}
 use Rattle.iso_lines.proofs.Touched.{IsTouched, key_like, named-touched, others-touched}

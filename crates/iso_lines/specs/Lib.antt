@@ -2,3 +2,4 @@ pub mod Named
 pub mod Locks
 pub mod Tasks
 pub mod Weighs
+pub mod Registers

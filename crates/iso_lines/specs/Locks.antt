@@ -1,7 +1,6 @@
 -- The lock list: what each name's line is, and the names of each connection. No order between names is told.
-use Rattle.std.specs.List.{IsDistinct, list_any}
-use Rattle.std.specs.Map.{keys_of}
-use Rattle.std.specs.Prelude.{◌≤◌, Bool, true, false, not, ◌&&◌, ◌||◌, ◌≡◌, ◌+◌, ℕ, zero, suc, List, [], ◌∷◌, length, map, is_some, slice_get, slice_index_or, Some}
+use Rattle.std.specs.List.{list_any}
+use Rattle.std.specs.Prelude.{Bool, true, not, ◌&&◌, ◌||◌, ◌≡◌, ◌+◌, ℕ, zero, suc, List, [], length, map, is_some, slice_index_or}
 use Rattle.iso_queue.specs.Lines.{Line, is_touched, is_waiter}
 use Rattle.iso_modes.specs.Terms.{is_kept}
 use Rattle.iso_queue.specs.declared.types.Hold.{Hold}
@@ -9,7 +8,8 @@ use Rattle.iso_queue.specs.declared.types.Waiter.{Waiter}
 use Rattle.iso_types.specs.Ids.{conn_eq}
 use Rattle.iso_types.specs.declared.value.Conn.{Conn}
 use Rattle.iso_types.specs.declared.value.Name.{Name}
-use Rattle.iso_lines.specs.Named.{Named, key_of, line_of, same}
+use Rattle.iso_types.specs.declared.value.TableId.{TableId}
+use Rattle.iso_lines.specs.Named.{Named, key_of, line_of}
 use Rattle.iso_lines.specs.declared.desk.Desk.{Desk}
 
 -- a name with a number
@@ -32,10 +32,11 @@ is_loose_wait c w = conn_eq w.conn c && not (is_kept w.term)
 abbrev pub is_at_hand : Conn → Line → Bool
 is_at_hand c q = has_loose c q || list_any (is_loose_wait c) q.waiters
 
--- the lines of names, and for each connection its names
+-- the lines of names, for each connection its names, and the table of each index
 pub record Locks : Type 0 where
   pub lines : Named
   pub names : List (List (Name × ℕ))
+  pub tables : List TableId
 
 -- the names of the connection
 abbrev pub names_of : Locks → Conn → List (Name × ℕ)
@@ -54,23 +55,9 @@ abbrev pub counts_below : List (List (Name × ℕ)) → ℕ → ℕ
 counts_below rows zero = 0
 counts_below rows (suc k) = counts_below rows k + length (slice_index_or rows k [])
 
--- no desk has a name
-abbrev pub AreIdle : List Desk → Type 0
-AreIdle [] = Unit {0}
-AreIdle (d ∷ ds) = (d.names.entries ≡ []) × AreIdle ds
-
 -- the names of a connection are those that it holds or awaits; those that are Fresh or Brief, or are to be, are at hand, and
 -- so are those that it awaits
 pub record IsSeated (lines : Named) (c : Conn) (d : Desk) : Type 0 where
   pub touched : (n : Name) → is_some (key_of d.names.entries n) ≡ is_touched (line_of lines n) c
   pub at_hand : (n : Name) → is_at_hand c (line_of lines n) ≡ true → is_some (key_of d.loose.entries n) ≡ true
   pub waiting : (n : Name) → is_waiter (line_of lines n).waiters c ≡ true → is_some (key_of d.awaited.entries n) ≡ true
-
--- there are 32 desks, each that of the connection of its number, with each of its names once; no other connection holds or awaits
--- a name; and the total is that of their names
-pub record IsLocks (lines : Named) (desks : List Desk) (total : ℕ) : Type 0 where
-  pub size : length desks ≡ 32
-  pub seated : (c : ℕ) (d : Desk) → slice_get desks c ≡ Some d → IsSeated lines (record { 0 = c }) d
-  pub unique : (c : ℕ) (d : Desk) → slice_get desks c ≡ Some d → IsDistinct same (keys_of d.names.entries)
-  pub beyond : (c : ℕ) → 32 ≤ c → (n : Name) → is_touched (line_of lines n) (record { 0 = c }) ≡ false
-  pub all : total ≡ counts_below (names_at desks) 32

@@ -3,9 +3,11 @@
 
 mod desk;
 mod lines;
+mod order;
 mod reads;
 mod register;
 mod tasks;
+mod weights;
 mod work;
 
 pub use desk::Desk;

@@ -1,19 +1,21 @@
 ghost use Rattle.std.specs.Prelude.{◌≡◌, ◌≤◌, ◌∷◌, ◌++◌, List, length, map, [], IfSome, IfNone, IfOk, OnOk, OnErr, false, if◌then◌else◌, slice_set, Some, None, IsSome, is_some, true};
-ghost use Rattle.std.specs.List.{IsDistinct};
+ghost use Rattle.std.specs.List.{IsDistinct, list_any};
 ghost use Rattle.std.specs.Map.{keys_of};
 ghost use Rattle.std.specs.Option.{option_copied};
 ghost use Rattle.slab.specs.Slab.{ContainsKey, get as slot, Updates};
 ghost use Rattle.indexmap.specs.IndexMap.{IsUnchanged, insert_entry};
 ghost use Rattle.iso_queue.specs.Lines.{Line, asked, is_granted, is_used};
 ghost use Rattle.iso_queue.specs.declared.types.Asked.{Asked as Outcome};
+ghost use Rattle.iso_queue.specs.Snapshots.{ordered};
 ghost use Rattle.iso_types.specs.Ids.{name_eq};
 ghost use Rattle.iso_types.specs.declared.value.Name.{Name as Other};
 ghost use Rattle.iso_lines.specs.Named.{IsNamed, IsWhole, Named, changed, kept, key_of, line_of, nobody, same};
 
+use crate::order::in_order;
 use indexmap::IndexMap;
 use iso_modes::{Mode, Term};
 use iso_queue::{Asked, Queue};
-use iso_types::{Conn, Memory, Name};
+use iso_types::{Conn, Head, Memory, Name};
 use slab::Slab;
 use std::alloc::Global;
 use std::marker::Model;
@@ -198,6 +200,14 @@ impl Lines {
     {
         let names: Vec<&Name> = self.index.keys().collect(alloc)?;
         Ok(names)
+    }
+
+    /// The names that somebody holds or awaits, each once, in the order of a snapshot. `Memory`: want of memory.
+    pub fn in_order(&self, alloc: Global, head: &Head) -> Result<Vec<&Name>, Memory>
+        ensures { (ns : List Other) → ((n : Other) → list_any (λ m. name_eq m n) ns ≡ is_used (line_of self.now n)) → IfOk result (λ v. map (λ n. n.now) v.items ≡ ordered head.now ns) }
+    {
+        let _ = self.index.len();
+        in_order(head, self.names(alloc)?)
     }
 
     /// Asks for the mode on the name, as `Queue::ask` does. `Memory`: want of memory, and nothing changed.

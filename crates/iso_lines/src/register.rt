@@ -2,6 +2,7 @@ ghost use Rattle.std.specs.Prelude.{List, ◌∷◌, ◌++◌, Some, slice_get, 
 ghost use Rattle.iso_queue.specs.Lines.{asked, is_grantable, is_granted, is_touched, is_used, is_waiter};
 ghost use Rattle.iso_queue.specs.declared.types.Asked.{Asked as Outcome};
 ghost use Rattle.std.specs.List.{IsDistinct, list_any};
+ghost use Rattle.iso_queue.specs.Snapshots.{ordered};
 ghost use Rattle.iso_types.specs.Ids.{name_eq};
 ghost use Rattle.iso_types.specs.declared.value.Conn.{Conn as Holder};
 ghost use Rattle.iso_types.specs.declared.value.Name.{Name as Other};
@@ -13,33 +14,35 @@ ghost use Rattle.iso_lines.specs.Locks.{count_of, counts_below, names_of};
 
 use crate::desk::{Desk, change_in, empty_desks, request_in};
 use crate::lines::{Change, Lines};
-use crate::reads::{awaited, claimable, weight};
+use crate::reads::{awaited, claimable};
 use crate::tasks::Task;
 use crate::work::work;
 use iso_modes::{Mode, Term};
 use iso_queue::{Asked, Queue};
-use iso_types::{Conn, Memory, Name, TableId};
+use iso_types::{Conn, Head, Items, Memory, Name, TableId};
 use std::alloc::Global;
 use std::marker::Model;
 
-/// All lock names that somebody holds or awaits, each with its queue, the names of each of 32 connections, and how many those
-/// of all are.
+/// All lock names that somebody holds or awaits, each with its queue, the names of each of 32 connections, how many those
+/// of all are, and the table of each index.
 #[derive(Drop)]
 pub struct Register {
     lines: Lines,
     desks: Vec<Desk>,
     total: u32,
+    tables: Items<TableId>,
 }
 
 impl Model for Register {
     ghost use Rattle.std.specs.Prelude.{map};
-    ghost use Rattle.iso_lines.specs.Locks.{IsLocks, Locks};
+    ghost use Rattle.iso_lines.specs.Locks.{Locks};
+    ghost use Rattle.iso_lines.specs.Registers.{IsLocks};
 
     ghost Value = { Locks };
 
-    ghost view = { λ l. record { lines = l.lines; names = map (λ d. d.names.entries) l.desks.items } };
+    ghost view = { λ l. record { lines = l.lines; names = map (λ d. d.names.entries) l.desks.items; tables = l.tables } };
 
-    ghost invariant = { λ l. IsLocks l.lines l.desks.items l.total };
+    ghost invariant = { λ l. IsLocks l.lines l.desks.items l.total l.tables };
 }
 
 /// The total once one of its parts has grown by one, or not.
@@ -73,9 +76,10 @@ fn desk_of(desks: &[Desk], conn: Conn) -> Option<&Desk>
 
 impl Register {
     /// A lock list in which nobody holds or awaits a name. `Memory`: want of memory.
-    pub fn new(alloc: Global) -> Result<Register, Memory>
+    pub fn new(alloc: Global, tables: Items<TableId>) -> Result<Register, Memory>
         ensures lines { IfOk result (λ l. (n : Other) → line_of l.lines n ≡ nobody) }
         ensures empty { IfOk result (λ l. l.lines.index ≡ []) }
+        ensures tables { IfOk result (λ l. l.tables ≡ tables) }
     {
         let lines = Lines::new(alloc);
         let desks = empty_desks(alloc)?;
@@ -83,6 +87,7 @@ impl Register {
             lines,
             desks,
             total: 0,
+            tables,
         })
     }
 
@@ -101,11 +106,20 @@ impl Register {
         ensures line { OnOk result (line_of self.new.lines name.now ≡ asked (line_of self.old.lines name.now) conn mode term) }
         ensures others { OnOk result ((n : Other) → name_eq name.now n ≡ false → line_of self.new.lines n ≡ line_of self.old.lines n) }
         ensures names { OnOk result (line_of self.old.lines name.now ≡ nobody → keys_of self.new.lines.index ≡ keys_of self.old.lines.index ++ name.now ∷ []) }
+        ensures tables { self.new.tables ≡ self.old.tables }
         ensures err { OnErr result (self.new ≡ self.old) }
     {
         let desk = &mut self.desks[conn.0 as usize];
         let before = desk.names.len();
-        let asked = request_in(&mut self.lines, desk, conn, name, mode, term)?;
+        let asked = request_in(
+            &mut self.lines,
+            desk,
+            conn,
+            self.tables.as_slice(),
+            name,
+            mode,
+            term,
+        )?;
         let after = desk.names.len();
         self.total = grown(self.total, before, after);
         Ok(asked)
@@ -117,23 +131,32 @@ impl Register {
         ensures line { line_of self.new.lines name.now ≡ changed change conn (line_of self.old.lines name.now) }
         ensures others { (n : Other) → name_eq name.now n ≡ false → line_of self.new.lines n ≡ line_of self.old.lines n }
         ensures last { (ns : List Other) → keys_of self.old.lines.index ≡ ns ++ name.now ∷ [] → is_used (changed change conn (line_of self.old.lines name.now)) ≡ false → keys_of self.new.lines.index ≡ ns }
+        ensures tables { self.new.tables ≡ self.old.tables }
     {
         let desk = &mut self.desks[conn.0 as usize];
         let before = desk.names.len();
-        change_in(&mut self.lines, desk, conn, name, change);
+        change_in(
+            &mut self.lines,
+            desk,
+            conn,
+            self.tables.as_slice(),
+            name,
+            change,
+        );
         let after = desk.names.len();
         self.total = lessened(self.total, before, after);
     }
 
     /// Does the task in the connection's part of each line. It takes no memory. Its cost is the number of the connection's names,
     /// for `Settle` that of its names at hand, and for `Cancel` and `Claim` that of the names that it awaits.
-    pub fn work(&mut self, conn: Conn, tables: &[TableId], task: &Task)
+    pub fn work(&mut self, conn: Conn, task: &Task)
         requires { conn.0 < 32 }
-        ensures { (n : Other) → line_of self.new.lines n ≡ worked tables.now task.now conn n (line_of self.old.lines n) }
+        ensures tables { self.new.tables ≡ self.old.tables }
+        ensures lines { (n : Other) → line_of self.new.lines n ≡ worked self.old.tables task.now conn n (line_of self.old.lines n) }
     {
         let desk = &mut self.desks[conn.0 as usize];
         let before = desk.names.len();
-        work(&mut self.lines, desk, conn, tables, task);
+        work(&mut self.lines, desk, conn, self.tables.as_slice(), task);
         let after = desk.names.len();
         self.total = lessened(self.total, before, after);
     }
@@ -194,24 +217,30 @@ impl Register {
         claimable(&self.lines, &desk.awaited, conn)
     }
 
-    /// On how many rows and keys of the table the connection has a hold that is not Brief. Its cost is the number of the
-    /// connection's names.
-    pub fn weight(&self, conn: Conn, tables: &[TableId], table: TableId) -> u32
+    /// The table of each index.
+    pub fn tables(&self) -> &[TableId]
+        ensures { result.now ≡ self.now.tables }
+    {
+        self.tables.as_slice()
+    }
+
+    /// On how many rows and keys of the table the connection has a hold that is not Brief. Its cost is constant.
+    pub fn weight(&self, conn: Conn, table: TableId) -> u32
         requires { conn.0 < 32 }
-        ensures { (ns : List Other) → IsDistinct name_eq ns → ((n : Other) → list_any (name_eq n) ns ≡ weighs tables.now conn table n (line_of self.now.lines n)) → result ≡ length ns }
+        ensures { (ns : List Other) → IsDistinct name_eq ns → ((n : Other) → list_any (name_eq n) ns ≡ weighs self.now.tables conn table n (line_of self.now.lines n)) → result ≡ length ns }
     {
         let desk = &self.desks[conn.0 as usize];
         let count = desk.names.len();
-        let weight = weight(&self.lines, &desk.names, conn, tables, table);
+        let weight = desk.weights[table.0 as usize];
         prove!(count <= self.total as usize);
         prove!(weight <= count);
         weight as u32
     }
 
-    /// The names that somebody holds or awaits, each once. `Memory`: want of memory.
-    pub fn names(&self, alloc: Global) -> Result<Vec<&Name>, Memory>
-        ensures { IfOk result (λ v. map (λ n. n.now) v.items ≡ keys_of self.now.lines.index) }
+    /// The names that somebody holds or awaits, each once, in the order of a snapshot. `Memory`: want of memory. It sorts them.
+    pub fn in_order(&self, alloc: Global, head: &Head) -> Result<Vec<&Name>, Memory>
+        ensures { (ns : List Other) → ((n : Other) → list_any (λ m. name_eq m n) ns ≡ is_used (line_of self.now.lines n)) → IfOk result (λ v. map (λ n. n.now) v.items ≡ ordered head.now ns) }
     {
-        self.lines.names(alloc)
+        self.lines.in_order(alloc, head)
     }
 }

@@ -4,24 +4,36 @@ ghost use Rattle.std.specs.List.{list_any};
 ghost use Rattle.iso_lines.specs.Locks.{Entry, IsSeated, is_at_hand, is_loose_hold, is_loose_wait};
 ghost use Rattle.iso_lines.specs.Named.{key_of, line_of, same};
 ghost use Rattle.iso_lines.specs.Tasks.{concerns, worked};
+ghost use Rattle.iso_lines.specs.Weighs.{IsWeighed};
 ghost use Rattle.iso_queue.specs.Lines.{Line, is_touched, is_waiter};
 ghost use Rattle.iso_types.specs.Ids.{name_eq};
 ghost use Rattle.iso_types.specs.declared.value.Name.{Name as Other};
 
-use crate::desk::{Desk, is_loose, keep_where_touched, touches, waits};
+use crate::desk::{Desk, change_weighed, is_loose, keep_where_touched, touches, waits};
 use crate::lines::Lines;
 use crate::tasks::{Task, change_on};
 use indexmap::IndexMap;
 use iso_queue::{Hold, Waiter};
 use iso_types::{Conn, Name, TableId};
 
-/// Does the task in the name's line.
-fn work_on(lines: &mut Lines, name: &Name, conn: Conn, tables: &[TableId], task: &Task)
+/// Does the task in the name's line, and counts the name in or out of the weights of all names of the connection.
+fn work_on(
+    lines: &mut Lines,
+    all: &IndexMap<Name, usize>,
+    weights: &mut Vec<usize>,
+    name: &Name,
+    conn: Conn,
+    tables: &[TableId],
+    task: &Task,
+)
+    requires there { (n : Other) → is_touched (line_of lines.old n) conn ≡ true → is_some (key_of all.now.entries n) ≡ true }
+    requires weighed { IsWeighed tables.now lines.old conn all.now.entries weights.old.items }
+    ensures weighed { IsWeighed tables.now lines.new conn all.now.entries weights.new.items }
     ensures line { line_of lines.new name.now ≡ worked tables.now task.now conn name.now (line_of lines.old name.now) }
     ensures others { (n : Other) → name_eq name.now n ≡ false → line_of lines.new n ≡ line_of lines.old n }
 {
     if let Some(change) = change_on(tables, task, name) {
-        lines.change(name, conn, change);
+        change_weighed(lines, all, weights, conn, tables, name, change);
     }
 }
 
@@ -30,15 +42,20 @@ fn work_at(
     lines: &mut Lines,
     names: &IndexMap<Name, usize>,
     at: usize,
+    all: &IndexMap<Name, usize>,
+    weights: &mut Vec<usize>,
     conn: Conn,
     tables: &[TableId],
     task: &Task,
 )
+    requires there { (n : Other) → is_touched (line_of lines.old n) conn ≡ true → is_some (key_of all.now.entries n) ≡ true }
+    requires weighed { IsWeighed tables.now lines.old conn all.now.entries weights.old.items }
+    ensures weighed { IsWeighed tables.now lines.new conn all.now.entries weights.new.items }
     ensures line { (e : Entry) → slice_get names.now.entries at ≡ Some e → line_of lines.new e.0 ≡ worked tables.now task.now conn e.0 (line_of lines.old e.0) }
     ensures others { (e : Entry) → slice_get names.now.entries at ≡ Some e → (n : Other) → name_eq e.0 n ≡ false → line_of lines.new n ≡ line_of lines.old n }
 {
     if let Some((name, _)) = names.get_index(at) {
-        work_on(lines, name, conn, tables, task);
+        work_on(lines, all, weights, name, conn, tables, task);
     }
 }
 
@@ -46,15 +63,20 @@ fn work_at(
 fn work_over(
     lines: &mut Lines,
     names: &IndexMap<Name, usize>,
+    all: &IndexMap<Name, usize>,
+    weights: &mut Vec<usize>,
     conn: Conn,
     tables: &[TableId],
     task: &Task,
 )
-    requires { (n : Other) → concerns task.now conn (line_of lines.old n) ≡ true → is_some (key_of names.now.entries n) ≡ true }
-    ensures { (n : Other) → line_of lines.new n ≡ worked tables.now task.now conn n (line_of lines.old n) }
+    requires concerned { (n : Other) → concerns task.now conn (line_of lines.old n) ≡ true → is_some (key_of names.now.entries n) ≡ true }
+    requires there { (n : Other) → is_touched (line_of lines.old n) conn ≡ true → is_some (key_of all.now.entries n) ≡ true }
+    requires weighed { IsWeighed tables.now lines.old conn all.now.entries weights.old.items }
+    ensures weighed { IsWeighed tables.now lines.new conn all.now.entries weights.new.items }
+    ensures lines { (n : Other) → line_of lines.new n ≡ worked tables.now task.now conn n (line_of lines.old n) }
 {
     for at in 0..names.len() {
-        work_at(lines, names, at, conn, tables, task);
+        work_at(lines, names, at, all, weights, conn, tables, task);
     }
 }
 
@@ -158,46 +180,84 @@ fn keep_awaited(names: &mut IndexMap<Name, usize>, lines: &Lines, conn: Conn)
 /// Does a task that concerns names which the connection holds or awaits. Its cost is their number.
 fn work_names(lines: &mut Lines, desk: &mut Desk, conn: Conn, tables: &[TableId], task: &Task)
     requires seated { IsSeated lines.old conn desk.old }
+    requires weighed { IsWeighed tables.now lines.old conn desk.old.names.entries desk.old.weights.items }
     requires concerned { (q : Line) → concerns task.now conn q ≡ true → is_touched q conn ≡ true }
     ensures lines { (n : Other) → line_of lines.new n ≡ worked tables.now task.now conn n (line_of lines.old n) }
     ensures seated { IsSeated lines.new conn desk.new }
+    ensures weighed { IsWeighed tables.now lines.new conn desk.new.names.entries desk.new.weights.items }
     ensures fewer { length desk.new.names.entries ≤ length desk.old.names.entries }
 {
-    work_over(lines, &desk.names, conn, tables, task);
+    let _ = desk.names.len();
+    work_over(
+        lines,
+        &desk.names,
+        &desk.names,
+        &mut desk.weights,
+        conn,
+        tables,
+        task,
+    );
     keep_touched(&mut desk.names, lines, conn);
+    let _ = desk.names.len();
 }
 
 /// Does a task that concerns names at hand. Its cost is their number.
 fn work_loose(lines: &mut Lines, desk: &mut Desk, conn: Conn, tables: &[TableId], task: &Task)
     requires seated { IsSeated lines.old conn desk.old }
+    requires weighed { IsWeighed tables.now lines.old conn desk.old.names.entries desk.old.weights.items }
     requires concerned { (q : Line) → concerns task.now conn q ≡ true → is_at_hand conn q ≡ true }
     ensures lines { (n : Other) → line_of lines.new n ≡ worked tables.now task.now conn n (line_of lines.old n) }
     ensures seated { IsSeated lines.new conn desk.new }
+    ensures weighed { IsWeighed tables.now lines.new conn desk.new.names.entries desk.new.weights.items }
     ensures fewer { length desk.new.names.entries ≤ length desk.old.names.entries }
 {
-    work_over(lines, &desk.loose, conn, tables, task);
+    let _ = desk.names.len();
+    work_over(
+        lines,
+        &desk.loose,
+        &desk.names,
+        &mut desk.weights,
+        conn,
+        tables,
+        task,
+    );
     prune(&mut desk.names, &desk.loose, lines, conn);
+    let _ = desk.names.len();
     keep_at_hand(&mut desk.loose, lines, conn);
 }
 
 /// Does a task that concerns names which the connection awaits. Its cost is their number.
 fn work_awaited(lines: &mut Lines, desk: &mut Desk, conn: Conn, tables: &[TableId], task: &Task)
     requires seated { IsSeated lines.old conn desk.old }
+    requires weighed { IsWeighed tables.now lines.old conn desk.old.names.entries desk.old.weights.items }
     requires concerned { (q : Line) → concerns task.now conn q ≡ true → is_waiter q.waiters conn ≡ true }
     ensures lines { (n : Other) → line_of lines.new n ≡ worked tables.now task.now conn n (line_of lines.old n) }
     ensures seated { IsSeated lines.new conn desk.new }
+    ensures weighed { IsWeighed tables.now lines.new conn desk.new.names.entries desk.new.weights.items }
     ensures fewer { length desk.new.names.entries ≤ length desk.old.names.entries }
 {
-    work_over(lines, &desk.awaited, conn, tables, task);
+    let _ = desk.names.len();
+    work_over(
+        lines,
+        &desk.awaited,
+        &desk.names,
+        &mut desk.weights,
+        conn,
+        tables,
+        task,
+    );
     prune(&mut desk.names, &desk.awaited, lines, conn);
+    let _ = desk.names.len();
     keep_awaited(&mut desk.awaited, lines, conn);
 }
 
 /// Does the task over those of the connection's names that it may concern. Its cost is their number.
 pub fn work(lines: &mut Lines, desk: &mut Desk, conn: Conn, tables: &[TableId], task: &Task)
-    requires { IsSeated lines.old conn desk.old }
+    requires seated { IsSeated lines.old conn desk.old }
+    requires weighed { IsWeighed tables.now lines.old conn desk.old.names.entries desk.old.weights.items }
     ensures lines { (n : Other) → line_of lines.new n ≡ worked tables.now task.now conn n (line_of lines.old n) }
     ensures seated { IsSeated lines.new conn desk.new }
+    ensures weighed { IsWeighed tables.now lines.new conn desk.new.names.entries desk.new.weights.items }
     ensures fewer { length desk.new.names.entries ≤ length desk.old.names.entries }
 {
     match task {

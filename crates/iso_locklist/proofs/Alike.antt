@@ -1,10 +1,10 @@
 -- Lists that have of each name the same items, in the same order.
-use Rattle.std.proofs.Common.{◌≡◌, ◌≤◌, ◌+◌, ℕ, zero, suc, Bool, true, false, not, List, [], ◌∷◌, length, map, refl, ap, sym, ◌∙◌, arith}
+use Rattle.std.proofs.Common.{◌≡◌, ◌≤◌, ◌+◌, ℕ, zero, suc, Bool, true, false, not, List, [], ◌∷◌, length, refl, ap, sym, ◌∙◌, arith}
 use Rattle.std.specs.Prelude.{count_by, filter, find, Option, None, Some}
 use Rattle.std.specs.Option.{option_or}
 use Rattle.std.proofs.lemmas.List.Filters.{length-filter_both}
 use Rattle.iso_locklist.specs.Places.{one}
-use Rattle.iso_locklist.proofs.Names.{name_same}
+use Rattle.iso_lines.proofs.Names.{name_same}
 use Rattle.iso_locklist.proofs.Settles.{gone, kept}
 use Rattle.iso_locklist.proofs.Taken.{count_cons}
 use Rattle.iso_types.specs.Ids.{name_eq}
@@ -23,16 +23,6 @@ swap_by p q x xs false false e f ih = ap (filter p) (gone q x xs f) ∙ ih ∙ a
 pub swap : {X : Type 0} (p q : X → Bool) (xs : List X) → filter p (filter q xs) ≡ filter q (filter p xs)
 swap p q [] = refl
 swap p q (x ∷ xs) = swap_by p q x xs (p x) (q x) refl refl (swap p q xs)
-
--- a filter after a map that keeps the test
-map_by : {X : Type 0} (p : X → Bool) (f : X → X) (x : X) (xs : List X) (b : Bool) → p x ≡ b → p (f x) ≡ p x
-    → filter p (map f xs) ≡ map f (filter p xs) → filter p (map f (x ∷ xs)) ≡ map f (filter p (x ∷ xs))
-map_by p f x xs true e same ih = kept p (f x) (map f xs) (same ∙ e) ∙ ap (λ (l : List _). f x ∷ l) ih ∙ ap (map f) (sym (kept p x xs e))
-map_by p f x xs false e same ih = gone p (f x) (map f xs) (same ∙ e) ∙ ih ∙ ap (map f) (sym (gone p x xs e))
-
-pub filter_map_same : {X : Type 0} (p : X → Bool) (f : X → X) (xs : List X) → ((x : X) → p (f x) ≡ p x) → filter p (map f xs) ≡ map f (filter p xs)
-filter_map_same p f [] same = refl
-filter_map_same p f (x ∷ xs) same = map_by p f x xs (p x) refl (same x) (filter_map_same p f xs same)
 
 -- a count, by a second test
 count_by_parts : {X : Type 0} (p q : X → Bool) (x : X) (xs : List X) (b : Bool) → q x ≡ b
@@ -123,21 +113,10 @@ module _ {X : Type 0} (name_of : X → Name) where
   abbrev pub AreAlike : List X → List X → Type 0
   AreAlike xs ys = (n : Name) → of_name n xs ≡ of_name n ys
 
-  pub alike_back : (xs ys : List X) → AreAlike xs ys → AreAlike ys xs
-  alike_back xs ys same n = sym (same n)
-
-  pub alike_on : (xs ys zs : List X) → AreAlike xs ys → AreAlike ys zs → AreAlike xs zs
-  alike_on xs ys zs same more n = same n ∙ more n
-
   -- filters keep lists alike, and so do maps that keep names
   pub alike_filter : (p : X → Bool) (xs ys : List X) → AreAlike xs ys → AreAlike (filter p xs) (filter p ys)
   alike_filter p xs ys same n =
       swap (λ x. name_eq (name_of x) n) p xs ∙ ap (filter p) (same n) ∙ sym (swap (λ x. name_eq (name_of x) n) p ys)
-
-  pub alike_map : (f : X → X) → ((x : X) → name_of (f x) ≡ name_of x) → (xs ys : List X) → AreAlike xs ys → AreAlike (map f xs) (map f ys)
-  alike_map f named xs ys same n =
-      let kept_name = (λ (x : X). ap (λ (m : Name). name_eq m n) (named x)) in
-      filter_map_same (λ x. name_eq (name_of x) n) f xs kept_name ∙ ap (map f) (same n) ∙ sym (filter_map_same (λ x. name_eq (name_of x) n) f ys kept_name)
 
   -- name by name: what holds of no items, and of lists that are the same at a name and so beside it, holds of lists that are alike
   pub by_names : (P : List X → List X → Type 0) → P [] []

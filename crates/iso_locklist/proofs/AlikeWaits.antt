@@ -1,21 +1,19 @@
 -- Waits that are alike: what is seen of them, and what is done to them.
-use Rattle.std.proofs.Common.{◌≡◌, ◌≤◌, ◌+◌, ℕ, Bool, true, false, not, ◌&&◌, ◌||◌, List, [], ◌∷◌, refl, ap, sym, subst, ◌∙◌, arith}
-use Rattle.std.specs.List.{list_any}
+use Rattle.std.proofs.Common.{◌≡◌, ◌≤◌, ◌+◌, ℕ, Bool, true, false, not, ◌&&◌, List, [], ◌∷◌, refl, ap, sym, ◌∙◌, arith}
 use Rattle.std.specs.Option.{option_map_or}
 use Rattle.std.specs.Prelude.{count_by, filter, find, if◌then◌else◌, is_some, sum_by, take_while, Option, None, Some}
-use Rattle.std.proofs.lemmas.Bool.{eqb-true}
 use Rattle.std.proofs.lemmas.List.Sums.{sum_by-cons}
 use Rattle.iso_locklist.specs.Lists.{HoldsAlike, WaitsAlike}
 use Rattle.iso_locklist.specs.Places.{one}
-use Rattle.iso_locklist.proofs.Alike.{alike_count, alike_filter, alike_find, count_parts}
-use Rattle.iso_locklist.proofs.AlikeHolds.{alike_hold_on, alike_opposed}
-use Rattle.iso_locklist.proofs.Names.{name_like, name_same}
+use Rattle.iso_locklist.proofs.Alike.{alike_count, alike_find, count_parts}
+use Rattle.iso_locklist.proofs.AlikeHolds.{alike_hold_on}
+use Rattle.iso_lines.proofs.Names.{name_like, name_same}
 use Rattle.iso_locklist.proofs.Settles.{gone, kept}
 use Rattle.iso_locklist.proofs.Taken.{count_cons}
-use Rattle.iso_locklist.proofs.Waits.{apart, found_true, pass, stop}
+use Rattle.iso_locklist.proofs.Waits.{apart, pass, stop}
 use Rattle.iso_queue.specs.Limits.{all_taken, taken}
 use Rattle.iso_queue.specs.Locks.{Hold, is_held}
-use Rattle.iso_queue.specs.Queues.{Wait, ahead, has_edge, is_grantable, is_new_beside, opposes, queue, queued, unqueued, wait_of, would_wait}
+use Rattle.iso_queue.specs.Queues.{Wait, is_new_beside, queue, queued, wait_of}
 use Rattle.iso_types.specs.Head.{conns}
 use Rattle.iso_types.specs.Ids.{conn_eq, name_eq}
 use Rattle.iso_types.specs.declared.head.Head.{Head}
@@ -83,21 +81,6 @@ module _ (hs gs : List Hold) (holds : HoldsAlike hs gs) where
   held_alike : (c : Conn) (n : Name) → is_held hs c n ≡ is_held gs c n
   held_alike c n = ap (λ (o : Option Hold). is_some o) (alike_hold_on hs gs holds c n)
 
-  pub queued_like : (x : Wait) (ys : List Wait) → queued hs x ys ≡ queued gs x ys
-  queued_like x [] = refl
-  queued_like x (y ∷ ys) =
-      ap (λ (l : List Wait). if is_held hs x.conn x.name && is_new_beside hs x y then x ∷ y ∷ ys else y ∷ l) (queued_like x ys)
-      ∙ ap (λ (b : Bool). if b && is_new_beside hs x y then x ∷ y ∷ ys else y ∷ queued gs x ys) (held_alike x.conn x.name)
-      ∙ ap (λ (b : Bool). if is_held gs x.conn x.name && (name_eq y.name x.name && not b) then x ∷ y ∷ ys else y ∷ queued gs x ys) (held_alike y.conn y.name)
-
-  module _ (xs ys : List Wait) (same : WaitsAlike xs ys) where
-    pub alike_queued : (x : Wait) → WaitsAlike (queued hs x xs) (queued gs x ys)
-    alike_queued x n = go (name_eq x.name n) refl
-      where
-        go : (b : Bool) → name_eq x.name n ≡ b → queue (queued hs x xs) n ≡ queue (queued gs x ys) n
-        go true e = queued_at hs x xs n e ∙ ap (queued hs x) (same n) ∙ queued_like x (queue ys n) ∙ sym (queued_at gs x ys n e)
-        go false e = queued_beside hs x xs (λ y. name_eq y.name n) e ∙ same n ∙ sym (queued_beside gs x ys (λ y. name_eq y.name n) e)
-
 -- ---- edges
 -- the earlier waiters of a name, where no wait of another name is the connection's own
 pub ahead_at : (c : Conn) (n : Name) (ys : List Wait) → count_by (own c) (beside n ys) ≡ 0 → queue (take_while (apart c) ys) n
@@ -150,46 +133,16 @@ pub none_beside : (c : Conn) (x : Wait) (ys : List Wait) → count_by (own c) ys
 none_beside c x ys le some =
     omega (arith, le, found_count c x.name x ys some (name_same x.name), count_parts (own c) (λ y. name_eq y.name x.name) ys)
 
-pub own_conn : (c : Conn) (x : Wait) (ys : List Wait) → wait_of ys c ≡ Some x → x.conn ≡ c
-own_conn c x ys some = ap (λ (k : ℕ). record { 0 = k }) (eqb-true x.conn.0 c.0 (found_true (own c) x ys some))
-
 module _ (hs gs : List Hold) (holds : HoldsAlike hs gs) (xs ys : List Wait) (same : WaitsAlike xs ys) where
   pub alike_wait_of : (c : Conn) → count_by (own c) xs ≤ 1 → wait_of xs c ≡ wait_of ys c
   alike_wait_of c le = alike_find name (own c) xs ys same le
-
-  -- a wait has an edge where it has one in the other lists, if its connection has no wait of another name
-  pub alike_edge : (x : Wait) → count_by (own x.conn) (beside x.name xs) ≡ 0 → has_edge hs xs x ≡ has_edge gs ys x
-  alike_edge x none =
-      let also : count_by (own x.conn) (beside x.name ys) ≡ 0 =
-      sym (alike_count name (own x.conn) (beside x.name xs) (beside x.name ys) (alike_filter name (λ y. not (name_eq y.name x.name)) xs ys same)) ∙ none in
-      ap (λ (b : Bool). b || list_any (λ y. true) (ahead xs x)) (alike_opposed hs gs holds x)
-      ∙ ap (λ (l : List Wait). list_any (opposes x) gs || list_any (λ y. true) l)
-      (ahead_at x.conn x.name xs none ∙ ap (take_while (apart x.conn)) (same x.name) ∙ sym (ahead_at x.conn x.name ys also))
-
-pub alike_would_wait : (hs gs : List Hold) → HoldsAlike hs gs → (xs ys : List Wait) → WaitsAlike xs ys → (x : Wait) → count_by (own x.conn) xs ≡ 0
-    → would_wait hs xs x ≡ would_wait gs ys x
-alike_would_wait hs gs holds xs ys same x none =
-    let least : count_by (own x.conn) (beside x.name xs) ≡ 0 = omega (arith, none, count_parts (own x.conn) (λ y. name_eq y.name x.name) xs) in
-    alike_edge hs gs holds (queued hs x xs) (queued gs x ys) (alike_queued hs gs holds xs ys same x) x
-    (ap (count_by (own x.conn)) (queued_beside hs x xs (λ y. not (name_eq y.name x.name)) (ap not (name_same x.name))) ∙ least)
-
-module _ (hs gs : List Hold) (holds : HoldsAlike hs gs) (xs ys : List Wait) (same : WaitsAlike xs ys) where
-  pub alike_grantable : (c : Conn) → count_by (own c) xs ≤ 1 → is_grantable hs xs c ≡ is_grantable gs ys c
-  alike_grantable c le = ap (λ (o : Option Wait). option_map_or (λ x. not (has_edge hs xs x)) o false) refl ∙ go (wait_of xs c) refl
-    where
-      go : (o : Option Wait) → wait_of xs c ≡ o → option_map_or (λ x. not (has_edge hs xs x)) (wait_of xs c) false ≡ is_grantable gs ys c
-      go None e = rw (e, sym (alike_wait_of hs gs holds xs ys same c le) ∙ e) refl
-      go (Some x) e =
-          rw (e, sym (alike_wait_of hs gs holds xs ys same c le) ∙ e)
-          (ap not (alike_edge hs gs holds xs ys same x (subst (λ (d : Conn). count_by (own d) (beside x.name xs)
-          ≡ 0) (sym (own_conn c x xs e)) (none_beside c x xs le e))))
 
   pub alike_taken : (c : Conn) → count_by (own c) xs ≤ 1 → taken hs xs c ≡ taken gs ys c
   alike_taken c le =
       ap (λ (k : ℕ). k + option_map_or (λ x. if is_held hs c x.name then 0 else 1) (wait_of xs c) 0) (alike_count (λ h. h.name)
       (λ h. conn_eq h.conn c) hs gs holds)
       ∙ ap (λ (o : Option Wait). count_by (λ h. conn_eq h.conn c) gs + option_map_or (λ x. if is_held hs c x.name then 0 else 1) o 0)
-      (alike_wait_of hs gs holds xs ys same c le)
+      (alike_wait_of c le)
       ∙ go (wait_of ys c)
     where
       go : (o : Option Wait) → count_by (λ (h : Hold). conn_eq h.conn c) gs + option_map_or (λ x. if is_held hs c x.name then 0 else 1) o 0
@@ -204,7 +157,3 @@ module _ (hs gs : List Hold) (holds : HoldsAlike hs gs) (xs ys : List Wait) (sam
       sums [] = refl
       sums (c ∷ cs) = sum_by-cons (taken hs xs) c cs ∙ ap (λ (k : ℕ). k + sum_by (taken hs xs) cs) (alike_taken c (alone c))
           ∙ ap (λ (k : ℕ). taken gs ys c + k) (sums cs) ∙ sym (sum_by-cons (taken gs ys) c cs)
-
--- ---- the connection's wait goes
-pub alike_unqueued : (c : Conn) (xs ys : List Wait) → WaitsAlike xs ys → WaitsAlike (unqueued c xs) (unqueued c ys)
-alike_unqueued c xs ys same = alike_filter name (λ x. not (conn_eq x.conn c)) xs ys same

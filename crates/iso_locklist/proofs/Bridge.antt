@@ -1,19 +1,13 @@
--- Where lines stand for holds and waits, places take their names, each once with its line, and stand for them too.
-use Rattle.std.proofs.Common.{ℕ, zero, suc, ◌≡◌, ◌<◌, ◌≤◌, ◌+◌, Bool, true, false, not, ◌&&◌, ◌||◌, List, [], ◌∷◌, ◌++◌, map, filter, refl, ap, sym, subst, ◌∙◌, true≢false, arith}
+-- Names that pass a test, out of names that are apart; and the sum of the counts of places.
+use Rattle.std.proofs.Common.{ℕ, zero, suc, ◌≡◌, ◌<◌, ◌≤◌, ◌+◌, Bool, true, false, not, ◌&&◌, ◌||◌, List, [], ◌∷◌, map, filter, refl, ap, sym, subst, ◌∙◌, true≢false, arith}
 use Rattle.std.specs.List.{AllByRecursion, IsDistinct, list_any}
-use Rattle.std.specs.Prelude.{if◌then◌else◌}
-use Rattle.iso_locklist.specs.Holding.{AreLines}
-use Rattle.iso_locklist.specs.Lists.{named_hold, named_wait}
-use Rattle.iso_locklist.specs.Places.{are_apart, line_at, names, nobody, taken, taken_below}
+use Rattle.iso_locklist.specs.Places.{are_apart, taken, taken_below}
 use Rattle.iso_locklist.specs.Places.{Place}
-use Rattle.iso_locklist.proofs.Apart.{turned}
-use Rattle.iso_locklist.proofs.Lists.{name_is}
-use Rattle.iso_locklist.proofs.Names.{name_same}
+use Rattle.iso_lines.proofs.Same.{turned}
+use Rattle.iso_lines.proofs.Same.{name_is}
+use Rattle.iso_lines.proofs.Names.{name_same}
 use Rattle.iso_locklist.proofs.Settles.{gone, kept}
-use Rattle.iso_locklist.proofs.Waits.{line_here, line_past}
 use Rattle.iso_queue.specs.Lines.{Line}
-use Rattle.iso_queue.specs.Locks.{Hold}
-use Rattle.iso_queue.specs.Queues.{Wait}
 use Rattle.iso_types.specs.Ids.{name_eq}
 use Rattle.iso_types.specs.declared.value.Name.{Name}
 
@@ -21,109 +15,14 @@ use Rattle.iso_types.specs.declared.value.Name.{Name}
 abbrev pub is_one : List Name → Name → Bool
 is_one ns k = list_any (λ m. name_eq m k) ns
 
--- these names, each once
-abbrev pub once : List Name → List Name
-once [] = []
-once (n ∷ ns) = if is_one (once ns) n then once ns else n ∷ once ns
-
 -- a place for each of them, with its line
 abbrev pub placed : (Name → Line) → List Name → List Place
 placed line ns = map (λ n. record { name = n; queue = line n }) ns
-
--- the names of all holds and waits
-abbrev pub all_names : List Hold → List Wait → List Name
-all_names hs xs = map (λ h. h.name) hs ++ map (λ x. x.name) xs
-
--- the places of all names that are held or awaited
-abbrev pub places_of : List Hold → List Wait → (Name → Line) → List Place
-places_of hs xs line = placed line (once (all_names hs xs))
-
-apart_by : (n : Name) (ns : List Name) (b : Bool) → is_one ns n ≡ b → are_apart ns ≡ true → are_apart (if b then ns else n ∷ ns) ≡ true
-apart_by n ns true e ih = ih
-apart_by n ns false e ih = (λ j. not (e j) && ih j)
-
-once_apart : (ns : List Name) → are_apart (once ns) ≡ true
-once_apart [] = refl
-once_apart (n ∷ ns) = apart_by n (once ns) (is_one (once ns) n) refl (once_apart ns)
-
-one_by : (k n : Name) (ns : List Name) (rest b d : Bool) → is_one ns n ≡ b → name_eq n k ≡ d → is_one ns k ≡ rest → is_one (if b then ns else n ∷ ns) k ≡ (name_eq n k || rest)
-one_by k n ns rest true true e f ih = subst (λ (m : Name). is_one ns m ≡ true) (name_is n k f) e ∙ sym (ap (λ (a : Bool). a || rest) f)
-one_by k n ns rest true false e f ih = ih ∙ sym (ap (λ (a : Bool). a || rest) f)
-one_by k n ns rest false d e f ih = ap (λ (a : Bool). name_eq n k || a) ih
-
-pub once_one : (k : Name) (ns : List Name) → is_one (once ns) k ≡ is_one ns k
-once_one k [] = refl
-once_one k (n ∷ ns) = one_by k n (once ns) (is_one ns k) (is_one (once ns) n) (name_eq n k) refl refl (once_one k ns)
-
-names_placed : (line : Name → Line) (ns : List Name) → names (placed line ns) ≡ ns
-names_placed line [] = refl
-names_placed line (n ∷ ns) = ap (λ (l : List Name). n ∷ l) (names_placed line ns)
-
-line_by : (line : Name → Line) (n : Name) (ns : List Name) (k : Name) (b : Bool) → name_eq n k ≡ b → (is_one ns k ≡ true → line_at (placed line ns) k ≡ line k)
-    → is_one (n ∷ ns) k ≡ true → line_at (placed line (n ∷ ns)) k ≡ line k
-line_by line n ns k true e ih h = line_here (record { name = n; queue = line n }) (placed line ns) k e ∙ ap line (name_is n k e)
-line_by line n ns k false e ih h =
-    line_past (record { name = n; queue = line n }) (placed line ns) k e ∙ ih (sym (ap (λ (a : Bool). a || is_one ns k) e) ∙ h)
-
-line_placed : (line : Name → Line) (ns : List Name) (k : Name) → is_one ns k ≡ true → line_at (placed line ns) k ≡ line k
-line_placed line [] k h = absurd (true≢false (sym h))
-line_placed line (n ∷ ns) k h = line_by line n ns k (name_eq n k) refl (line_placed line ns k) h
 
 or_none : (a b : Bool) → (a || b) ≡ false → (a ≡ false) × (b ≡ false)
 or_none true b e = absurd (true≢false e)
 or_none false b e = (refl, e)
 
-line_absent : (line : Name → Line) (ns : List Name) (k : Name) → is_one ns k ≡ false → line_at (placed line ns) k ≡ nobody
-line_absent line [] k h = refl
-line_absent line (n ∷ ns) k h =
-    let p = or_none (name_eq n k) (is_one ns k) h in
-    line_past (record { name = n; queue = line n }) (placed line ns) k p.0 ∙ line_absent line ns k p.1
-
-any_append : (p : Name → Bool) (ms ns : List Name) → list_any p (ms ++ ns) ≡ false → (list_any p ms ≡ false) × (list_any p ns ≡ false)
-any_append p [] ns h = (refl, h)
-any_append p (m ∷ ms) ns h =
-    let q = or_none (p m) (list_any p (ms ++ ns)) h in
-    let r = any_append p ms ns q.1 in
-    ((λ j. q.0 j || r.0 j), r.1)
-
-none_left : {X : Type 0} (f : X → Name) (k : Name) (xs : List X) → is_one (map f xs) k ≡ false → filter (λ x. name_eq (f x) k) xs ≡ []
-none_left f k [] h = refl
-none_left f k (x ∷ xs) h =
-    let p = or_none (name_eq (f x) k) (is_one (map f xs) k) h in
-    gone (λ y. name_eq (f y) k) x xs p.0 ∙ none_left f k xs p.1
-
-map_none : {X Y : Type 0} (f : X → Y) (xs : List X) → map f xs ≡ [] → xs ≡ []
-map_none f [] e = refl
-map_none f (x ∷ xs) e = cc e
-
-module _ (hs : List Hold) (xs : List Wait) (line : Name → Line) (are : AreLines hs xs line) where
-  -- nobody stands in the line of a name that is neither held nor awaited
-  pub empty_line : (k : Name) → is_one (all_names hs xs) k ≡ false → line k ≡ nobody
-  empty_line k h =
-      let p = any_append (λ m. name_eq m k) (map (λ (x : Hold). x.name) hs) (map (λ (x : Wait). x.name) xs) h in
-      let holders : (line k).holders ≡ [] = map_none (named_hold k) (line k).holders (are.holds k ∙ none_left (λ (x : Hold). x.name) k hs p.0) in
-      let waiters : (line k).waiters ≡ [] = map_none (named_wait k) (line k).waiters (are.waits k ∙ none_left (λ (x : Wait). x.name) k xs p.1) in
-      λ j. record { holders = holders j; waiters = waiters j }
-
-  pub apart_places : are_apart (names (places_of hs xs line)) ≡ true
-  apart_places = ap are_apart (names_placed line (once (all_names hs xs))) ∙ once_apart (all_names hs xs)
-
-  -- each name's line is that of its place
-  pub line_places : (k : Name) → line_at (places_of hs xs line) k ≡ line k
-  line_places k = by (is_one (once (all_names hs xs)) k) refl
-    where
-      by : (b : Bool) → is_one (once (all_names hs xs)) k ≡ b → line_at (places_of hs xs line) k ≡ line k
-      by true e = line_placed line (once (all_names hs xs)) k e
-      by false e = line_absent line (once (all_names hs xs)) k e ∙ sym (empty_line k (sym (once_one k (all_names hs xs)) ∙ e))
-
-  -- so the places stand for the same holds and waits
-  pub are_places : AreLines hs xs (line_at (places_of hs xs line))
-  are_places = record {
-    holds = λ n. ap (λ (q : Line). map (named_hold n) q.holders) (line_places n) ∙ are.holds n;
-    waits = λ n. ap (λ (q : Line). map (named_wait n) q.waiters) (line_places n) ∙ are.waits n;
-  }
-
--- ---- names that pass a test
 and_parts : (a b : Bool) → (a && b) ≡ true → (a ≡ true) × (b ≡ true)
 and_parts true b e = (refl, e)
 and_parts false b e = absurd (true≢false (sym e))

@@ -1,39 +1,33 @@
 -- A lock list that stands for holds and waits: what is seen of it, and what is done to it, by the line of each name.
-use Rattle.std.proofs.Common.{ℕ, ◌≡◌, ◌≤◌, Bool, true, false, not, ◌&&◌, ◌||◌, List, [], ◌∷◌, map, refl, ap, sym, subst, ◌∙◌, arith}
+use Rattle.std.proofs.Common.{◌≡◌, ◌≤◌, Bool, true, false, not, ◌&&◌, ◌||◌, List, [], ◌∷◌, map, refl, ap, sym, subst, ◌∙◌, arith}
 use Rattle.std.specs.List.{list_any}
 use Rattle.std.specs.Option.{option_map, option_map_or}
-use Rattle.std.specs.Prelude.{count_by, filter, find, if◌then◌else◌, is_some, take_while, ◌++◌, Option, None, Some}
-use Rattle.iso_locklist.specs.Holding.{AreLines, AreOfHead, WaitsOnce, holds_mode, need_in, room_asked, room_in_lists, settled_beside}
-use Rattle.iso_locklist.specs.Lists.{HoldsAlike, IsAsked, IsClaimed, IsSingleIn, WaitsAlike, asked_for, claimed_holds, claimed_waits, grants_in, holds_in, named_hold, named_wait, waiting_for, waits_in}
-use Rattle.iso_locklist.specs.Places.{all_taken, are_apart, cancelled, edges_in, is_grantable_in, is_spared as spares, line_at, names, nobody, one, released, taken, wait_in, Ledger, need_of, room_by, room_to_ask}
-use Rattle.iso_locklist.specs.declared.room.Room.TheVariants.{Free}
+use Rattle.std.specs.Prelude.{count_by, filter, find, if◌then◌else◌, is_some, Option, Some}
+use Rattle.iso_locklist.specs.Holding.{AreLines, AreOfHead, WaitsOnce, settled_beside}
+use Rattle.iso_locklist.specs.Lists.{HoldsAlike, IsSingleIn, WaitsAlike, holds_in, named_hold, named_wait, waits_in}
+use Rattle.iso_locklist.specs.Places.{all_taken, are_apart, cancelled, is_spared as spares, line_at, names, one, released, taken}
 use Rattle.iso_locklist.specs.Places.{Place}
-use Rattle.iso_locklist.proofs.Alike.{alike_count, alike_filter, swap}
-use Rattle.iso_locklist.proofs.AlikeClaims.{alike_claimed_holds, alike_claimed_waits}
-use Rattle.iso_locklist.proofs.AlikeHolds.{alike_added, alike_covered, alike_hold_on, filter_like}
-use Rattle.iso_locklist.proofs.AlikeWaits.{ahead_at, alike_all_taken, alike_grantable, alike_queued, alike_taken, alike_wait_of, alike_would_wait, beside, none_beside, own, own_conn}
-use Rattle.iso_locklist.proofs.Lists.{any_map, any_seek, holds_of_name, is_hold, name_is, seek, seek_map, table_like, waits_of_name}
-use Rattle.iso_locklist.proofs.Names.{name_same}
-use Rattle.iso_locklist.proofs.Settles.{gone, kept}
+use Rattle.iso_locklist.proofs.Alike.{alike_count, swap}
+use Rattle.iso_locklist.proofs.AlikeHolds.{filter_like}
+use Rattle.iso_locklist.proofs.AlikeWaits.{alike_all_taken, alike_taken, own}
+use Rattle.iso_locklist.proofs.Lists.{any_map, any_seek, holds_of_name, is_hold, seek, seek_map, table_like, waits_of_name}
+use Rattle.iso_lines.proofs.Same.{name_is}
+use Rattle.iso_lines.proofs.Names.{name_same}
+use Rattle.iso_locklist.proofs.Settles.{kept}
 use Rattle.iso_locklist.proofs.SettledLists.{brief_goes, briefs_settled, briefs_were}
-use Rattle.iso_locklist.proofs.AskedLists.{granted_told, mode_by}
-use Rattle.iso_locklist.proofs.Blockers.{edges_is}
 use Rattle.iso_locklist.proofs.SingleLists.{single_in}
 use Rattle.iso_locklist.proofs.Totals.{total_in_lists}
-use Rattle.iso_locklist.proofs.Waits.{apart, grantable_told, wait_told}
 use Rattle.iso_locklist.proofs.Taken.{count_cons, taken_in_lists}
 use Rattle.iso_modes.specs.Modes.{mode_eq}
 use Rattle.iso_modes.specs.Terms.{is_brief, is_fresh}
-use Rattle.iso_modes.specs.declared.Mode.{Mode}
 use Rattle.iso_modes.specs.declared.Mode.TheVariants.{Nw, S}
-use Rattle.iso_modes.specs.declared.Term.{Term}
-use Rattle.iso_modes.specs.declared.Term.TheVariants.{Brief, Kept}
+use Rattle.iso_modes.specs.declared.Term.TheVariants.{Kept}
 use Rattle.iso_queue.specs.Limits as limits
 use Rattle.iso_queue.specs.Lines as lines
-use Rattle.iso_queue.specs.Lines.{Line, bits_of, hold_of, is_guarded_against}
+use Rattle.iso_queue.specs.Lines.{Line, hold_of, is_guarded_against}
 use Rattle.iso_queue.specs.Locks as locks
 use Rattle.iso_queue.specs.Locks.{Hold, collapsed, dropped, freed, hold_on, is_hold_of, others_guard, settled, settled_one, without_briefs}
-use Rattle.iso_queue.specs.Queues.{Wait, ahead, blockers, is_grantable, is_waiting, opposes, queue, queued, unqueued, wait_of}
+use Rattle.iso_queue.specs.Queues.{Wait, unqueued}
 use Rattle.iso_queue.specs.declared.types.Hold.{Hold as Holder}
 use Rattle.iso_types.specs.Head.{is_on}
 use Rattle.iso_types.specs.Ids.{conn_eq, name_eq, table_eq}
@@ -203,42 +197,6 @@ module _ (hs : List Hold) (xs : List Wait) (old new : Name → Line) (are : AreL
           ∙ ap (map (settled_one c spare)) (filter_like (λ (h : Hold). name_eq (settled_one c spare h).name n) (λ h. name_eq h.name n) gs
           (λ h. named h n (conn_eq h.conn c && (is_fresh h.term && not (locks.is_spared spare h)))))
 
--- nobody is released where nobody stands
-pub nobody_released : (c : Conn) (q : Line) → q ≡ nobody → q ≡ released q c
-nobody_released c q e = rw e refl
-
--- ---- what opposes a wait is of its name
-filter_within : {X : Type 0} (p q : X → Bool) (xs : List X) → ((x : X) → q x ≡ false → p x ≡ false) → filter p (filter q xs) ≡ filter p xs
-filter_within p q [] out = refl
-filter_within p q (x ∷ xs) out = go (q x) (p x) refl refl (filter_within p q xs out)
-  where
-    go : (a b : Bool) → q x ≡ a → p x ≡ b → filter p (filter q xs) ≡ filter p xs → filter p (filter q (x ∷ xs)) ≡ filter p (x ∷ xs)
-    go true true e f ih = ap (filter p) (kept q x xs e) ∙ kept p x (filter q xs) f ∙ ap (λ (l : List _). x ∷ l) ih ∙ sym (kept p x xs f)
-    go true false e f ih = ap (filter p) (kept q x xs e) ∙ gone p x (filter q xs) f ∙ ih ∙ sym (gone p x xs f)
-    go false b e f ih = ap (filter p) (gone q x xs e) ∙ ih ∙ sym (gone p x xs (out x e))
-
-opposes_other : (x : Wait) (h : Hold) → name_eq h.name x.name ≡ false → opposes x h ≡ false
-unfolding opposes
-opposes_other x h e = rw e (none (not (conn_eq h.conn x.conn)))
-  where
-    none : (a : Bool) → (a && false) ≡ false
-    none true = refl
-    none false = refl
-
-module _ (hs gs : List Hold) (holds : HoldsAlike hs gs) (xs ys : List Wait) (same : WaitsAlike xs ys) (c : Conn) (le : count_by (own c) xs ≤ 1) where
-  -- the connections to which a wait has an edge are the same in lists that are alike
-  pub alike_blockers : (x : Wait) → wait_of xs c ≡ Some x → blockers hs xs x ≡ blockers gs ys x
-  alike_blockers x some =
-      let mine : count_by (own x.conn) (beside x.name xs) ≡ 0 =
-      subst (λ (d : Conn). count_by (own d) (beside x.name xs) ≡ 0) (sym (own_conn c x xs some)) (none_beside c x xs le some) in
-      let also : count_by (own x.conn) (beside x.name ys) ≡ 0 =
-      sym (alike_count (λ y. y.name) (own x.conn) (beside x.name xs) (beside x.name ys) (alike_filter (λ y. y.name) (λ y. not (name_eq y.name x.name)) xs ys same)) ∙ mine in
-      ap (λ (l : List Hold). map (λ (h : Hold). h.conn) l ++ map (λ (y : Wait). y.conn) (ahead xs x))
-      (sym (filter_within (opposes x) (λ h. name_eq h.name x.name) hs (opposes_other x)) ∙ ap (filter (opposes x)) (holds x.name)
-      ∙ filter_within (opposes x) (λ h. name_eq h.name x.name) gs (opposes_other x))
-      ∙ ap (λ (l : List Wait). map (λ (h : Hold). h.conn) (filter (opposes x) gs) ++ map (λ (y : Wait). y.conn) l)
-      (ahead_at x.conn x.name xs mine ∙ ap (take_while (apart x.conn)) (same x.name) ∙ sym (ahead_at x.conn x.name ys also))
-
 -- ---- a list of places, each name once, that stands for holds and waits
 module _ (ps : List Place) (unlike : are_apart (names ps) ≡ true) (hs : List Hold) (xs : List Wait) (are : AreLines hs xs (line_at ps)) where
   pub holds_like : HoldsAlike (holds_in ps) hs
@@ -250,9 +208,6 @@ module _ (ps : List Place) (unlike : are_apart (names ps) ≡ true) (hs : List H
   waits_count : (c : Conn) → count_by (own c) (waits_in ps) ≡ count_by (own c) xs
   waits_count c = alike_count (λ x. x.name) (own c) (waits_in ps) xs waits_like
 
-  none_waits : (c : Conn) → is_waiting xs c ≡ false → count_by (own c) (waits_in ps) ≡ 0
-  none_waits c idle = waits_count c ∙ none_counted (own c) xs idle
-
   one_waits : (c : Conn) → WaitsOnce xs c → count_by (own c) (waits_in ps) ≤ 1
   one_waits c once = omega (arith, waits_count c, once)
 
@@ -261,40 +216,6 @@ module _ (ps : List Place) (unlike : are_apart (names ps) ≡ true) (hs : List H
     holds = λ n. omega (arith, alike_count (λ h. h.name) (is_hold_of c n) (holds_in ps) hs holds_like, single.holds n);
     waits = one_waits c single.waits;
   }
-
-  pub covered_shown : (head : Head) (c : Conn) (n : Name) (m : Mode) → locks.is_covered head (holds_in ps) c n m ≡ locks.is_covered head hs c n m
-  covered_shown head c n m = alike_covered (holds_in ps) hs holds_like head c n m
-
-  pub grants_shown : (c : Conn) (n : Name) (m : Mode) → is_waiting xs c ≡ false → lines.is_granted (line_at ps n) c m ≡ grants_in hs xs c n m
-  grants_shown c n m idle =
-      let none = none_waits c idle in
-      let same : locks.held (holds_in ps) c n ≡ locks.held hs c n = ap (option_map (λ (h : Hold). h.mode)) (alike_hold_on (holds_in ps) hs holds_like c n) in
-      granted_told ps c n m unlike none
-      ∙ ap (λ (b : Bool). option_map_or (mode_eq (locks.target (holds_in ps) c n m)) (locks.held (holds_in ps) c n) false || not b)
-      (alike_would_wait (holds_in ps) hs holds_like (waits_in ps) xs waits_like (waiting_for (holds_in ps) c n m Brief) none)
-      ∙ rw same refl
-
-  pub grantable_shown : (c : Conn) → WaitsOnce xs c → is_grantable_in ps c ≡ is_grantable hs xs c
-  grantable_shown c single =
-      grantable_told ps c unlike (one_waits c single) ∙ alike_grantable (holds_in ps) hs holds_like (waits_in ps) xs waits_like c (one_waits c single)
-
-  wait_same : (c : Conn) → WaitsOnce xs c → wait_of (waits_in ps) c ≡ wait_of xs c
-  wait_same c single = alike_wait_of (holds_in ps) hs holds_like (waits_in ps) xs waits_like c (one_waits c single)
-
-  pub wait_shown : (c : Conn) → WaitsOnce xs c → wait_in ps c ≡ option_map (λ (x : Wait). (x.name, x.target)) (wait_of xs c)
-  wait_shown c single = wait_told ps c ∙ ap (option_map (λ (x : Wait). (x.name, x.target))) (wait_same c single)
-
-  pub edges_shown : (c : Conn) → WaitsOnce xs c → edges_in ps c ≡ option_map_or (λ x. bits_of (λ d. list_any (conn_eq d) (blockers hs xs x)) 32) (wait_of xs c) 0
-  edges_shown c single = edges_is ps c unlike (one_waits c single) ∙ go (wait_of (waits_in ps) c) refl
-    where
-      go : (o : Option Wait) → wait_of (waits_in ps) c ≡ o
-          → option_map_or (λ x. bits_of (λ d. list_any (conn_eq d) (blockers (holds_in ps) (waits_in ps) x)) 32) o 0
-          ≡ option_map_or (λ x. bits_of (λ d. list_any (conn_eq d) (blockers hs xs x)) 32) (wait_of xs c) 0
-      go None e = rw (sym (wait_same c single) ∙ e) refl
-      go (Some x) e =
-          rw (sym (wait_same c single) ∙ e)
-          (ap (λ (cs : List Conn). bits_of (λ d. list_any (conn_eq d) cs) 32)
-          (alike_blockers (holds_in ps) hs holds_like (waits_in ps) xs waits_like c (one_waits c single) x e))
 
   pub taken_shown : (c : Conn) → IsSingleIn hs xs c → taken ps c ≡ limits.taken hs xs c
   taken_shown c single =
@@ -307,81 +228,7 @@ module _ (ps : List Place) (unlike : are_apart (names ps) ≡ true) (hs : List H
       (λ d none. taken_shown d (of_head.single d) ∙ of_head.conns d none)
       ∙ alike_all_taken (holds_in ps) hs holds_like (waits_in ps) xs waits_like head (λ d. one_waits d (of_head.single d).waits)
 
-  -- whether the mode is held, and what a request needs
-  mode_shown : (c : Conn) (n : Name) (m : Mode) → lines.has_mode (line_at ps n).holders c m ≡ holds_mode hs c n m
-  mode_shown c n m = mode_by n m (hold_of (line_at ps n).holders c) (hold_on hs c n) (sym (hold_shown hs xs (line_at ps) are c n))
-
-  some_map : {X Y : Type 0} (f : X → Y) (o : Option X) → is_some (option_map f o) ≡ is_some o
-  some_map f None = refl
-  some_map f (Some x) = refl
-
-  need_shown : (c : Conn) (n : Name) → need_of ps c n ≡ need_in hs xs c n
-  need_shown c n =
-      ap (λ (b : Bool). if b || lines.is_waiter (line_at ps n).waiters c then 0 else 1)
-      (sym (some_map (named_hold n) (hold_of (line_at ps n).holders c)) ∙ ap (λ (o : Option Hold). is_some o) (hold_shown hs xs (line_at ps) are c n))
-      ∙ ap (λ (b : Bool). if locks.is_held hs c n || b then 0 else 1)
-      (sym (some_map (named_wait n) (lines.waiter_of (line_at ps n).waiters c))
-      ∙ ap (λ (o : Option Wait). is_some o)
-      (sym (seek_map (own c) (named_wait n) (line_at ps n).waiters) ∙ ap (find (own c)) (are.waits n)))
-
-  pub room_shown : (l : Ledger) → l.places ≡ ps → (head : Head) → AreOfHead head hs xs → (c : Conn) (n : Name) (m : Mode)
-      → room_to_ask l c n m ≡ room_asked head l hs xs c n m
-  room_shown l same head of_head c n m =
-      ap (λ (qs : List Place). if lines.has_mode (line_at qs n).holders c m then Free else room_by (taken qs c) (all_taken qs) l.share l.slots (need_of qs c n)) same
-      ∙ ap (λ (b : Bool). if b then Free else room_by (taken ps c) (all_taken ps) l.share l.slots (need_of ps c n)) (mode_shown c n m)
-      ∙ ap (λ (k : ℕ). if holds_mode hs c n m then Free else room_by k (all_taken ps) l.share l.slots (need_of ps c n)) (taken_shown c (of_head.single c))
-      ∙ ap (λ (k : ℕ). if holds_mode hs c n m then Free else room_by (limits.taken hs xs c) k l.share l.slots (need_of ps c n)) (total_shown head of_head)
-      ∙ ap (λ (k : ℕ). if holds_mode hs c n m then Free else room_in_lists head l hs xs c k) (need_shown c n)
-
--- the lists of places that stand for what is alike
-pub alike_are : (ps : List Place) → are_apart (names ps) ≡ true → (hs : List Hold) (xs : List Wait) → HoldsAlike (holds_in ps) hs → WaitsAlike (waits_in ps) xs
-    → AreLines hs xs (line_at ps)
-alike_are ps unlike hs xs holds waits = record {
-  holds = λ n. sym (holds_of_name ps n unlike) ∙ holds n;
-  waits = λ n. sym (waits_of_name ps n unlike) ∙ waits n;
-}
-
-module _ (ps qs : List Place) (unlike : are_apart (names ps) ≡ true) (still : are_apart (names qs) ≡ true)
-    (hs : List Hold) (xs : List Wait) (are : AreLines hs xs (line_at ps)) (c : Conn) where
-  pub claimed_are : WaitsOnce xs c → (count_by (own c) (waits_in ps) ≤ 1 → IsClaimed ps qs c)
-      → AreLines (claimed_holds hs xs c) (claimed_waits hs xs c) (line_at qs)
-  claimed_are single claimed =
-      let le = one_waits ps unlike hs xs are c single in
-      let now = claimed le in
-      alike_are qs still (claimed_holds hs xs c) (claimed_waits hs xs c)
-      (λ n. now.holds n ∙ alike_claimed_holds (holds_in ps) hs (holds_like ps unlike hs xs are) (waits_in ps) xs (waits_like ps unlike hs xs are) c le n)
-      (λ n. now.waits n ∙ alike_claimed_waits (holds_in ps) hs (holds_like ps unlike hs xs are) (waits_in ps) xs (waits_like ps unlike hs xs are) c le n)
-
-  module _ (n : Name) (m : Mode) (t : Term) where
-    pub asked_are : (granted : Bool) → IsAsked granted ps qs c n m t
-        → (granted ≡ true → AreLines (locks.added hs c (asked_for n m t)) xs (line_at qs))
-        × (granted ≡ false → AreLines hs (queued hs (waiting_for hs c n m t) xs) (line_at qs))
-    asked_are true asked = (
-      (λ e. alike_are qs still (locks.added hs c (asked_for n m t)) xs
-          (λ k. asked.holds k ∙ alike_added (holds_in ps) hs (holds_like ps unlike hs xs are) c (asked_for n m t) k)
-          (λ k. asked.waits k ∙ waits_like ps unlike hs xs are k)),
-      (λ e. cc e),
-    )
-    asked_are false asked = (
-      (λ e. cc e),
-      (λ e. alike_are qs still hs (queued hs (waiting_for hs c n m t) xs)
-          (λ k. asked.holds k ∙ holds_like ps unlike hs xs are k)
-          (λ k. asked.waits k
-          ∙ ap (λ (x : Wait). queue (queued (holds_in ps) x (waits_in ps)) k) (same_wait)
-          ∙ alike_queued (holds_in ps) hs (holds_like ps unlike hs xs are) (waits_in ps) xs (waits_like ps unlike hs xs are) (waiting_for hs c n m t) k)),
-    )
-      where
-        same_wait : waiting_for (holds_in ps) c n m t ≡ waiting_for hs c n m t
-        same_wait =
-            let same : locks.held (holds_in ps) c n ≡ locks.held hs c n =
-            ap (option_map (λ (h : Hold). h.mode)) (alike_hold_on (holds_in ps) hs (holds_like ps unlike hs xs are) c n) in
-            rw same refl
-
 -- ---- what is done in some lines
-holds_by : (b : Bool) (q r : Line) → (if b then q else r).holders ≡ (if b then q.holders else r.holders)
-holds_by true q r = refl
-holds_by false q r = refl
-
 module _ (hs : List Hold) (xs : List Wait) (old new : Name → Line) (are : AreLines hs xs old) (c : Conn) where
   -- the holds of the connection on a table's rows and keys go
   pub lines_collapsed : (head : Head) (ts : List TableId) → ts ≡ map (λ (d : IndexDef). d.table) head.indexes → (t : TableId)

@@ -1,77 +1,33 @@
 -- One name's items in the lists of all names.
-use Rattle.std.proofs.Common.{◌≡◌, ℕ, Bool, true, false, not, ◌&&◌, ◌||◌, List, [], ◌∷◌, ◌++◌, map, refl, ap, sym, ◌∙◌, subst}
-use Rattle.std.specs.Cmp.Lexicographic.{pointwise}
+use Rattle.std.proofs.Common.{◌≡◌, Bool, true, false, not, ◌&&◌, ◌||◌, List, [], ◌∷◌, ◌++◌, map, refl, ap, sym, ◌∙◌, subst}
 use Rattle.std.specs.List.{flat_map, list_any}
 use Rattle.std.specs.Option.{option_map, option_map_or}
-use Rattle.std.specs.Prelude.{nat_eq, filter, find, Option, None, Some}
-use Rattle.std.proofs.lemmas.Bool.{eqb-true}
-use Rattle.std.proofs.lemmas.Bool.Decides.{Decides-int_eq}
+use Rattle.std.specs.Prelude.{filter, find, Option, None, Some}
 use Rattle.std.proofs.lemmas.List.Elements.{filter-append}
 use Rattle.std.proofs.lemmas.Option.{slice_get-map}
+pub use Rattle.iso_lines.proofs.Same.{name_is}
+pub use Rattle.iso_lines.proofs.Names.{name_same}
 use Rattle.iso_locklist.specs.Lists.{holds_in, named_hold, named_wait, waits_in}
 use Rattle.iso_locklist.specs.Places.{Ledger, are_apart, is_covered, is_covered_on, line_at, names, nobody, table_in}
 use Rattle.iso_locklist.specs.Places.{Place}
-use Rattle.iso_modes.specs.Modes.{covers, mode_eq}
+use Rattle.iso_modes.specs.Modes.{covers}
 use Rattle.iso_modes.specs.declared.Mode.{Mode}
-use Rattle.iso_modes.specs.declared.Mode.TheVariants.{Nw, S}
-use Rattle.iso_queue.specs.Lines.{Line, hold_of, is_guarded_against}
+use Rattle.iso_queue.specs.Lines.{Line, hold_of}
 use Rattle.iso_queue.specs.Locks as locks
 use Rattle.iso_queue.specs.Queues.{queue}
 use Rattle.iso_queue.specs.declared.types.Hold.{Hold}
 use Rattle.iso_types.specs.Head.{table_of}
-use Rattle.iso_types.specs.Ids.{conn_eq, index_eq, name_eq, rid_eq, table_eq}
-use Rattle.iso_types.specs.Value.{value_eq}
+use Rattle.iso_types.specs.Ids.{conn_eq, name_eq}
 use Rattle.iso_types.specs.declared.head.Head.{Head}
 use Rattle.iso_types.specs.declared.head.IndexDef.{IndexDef}
 use Rattle.iso_types.specs.declared.value.Conn.{Conn}
-use Rattle.iso_types.specs.declared.value.IndexId.{IndexId}
 use Rattle.iso_types.specs.declared.value.Name.{Name}
 use Rattle.iso_types.specs.declared.value.Name.TheVariants.{End, Key, Row, Table}
-use Rattle.iso_types.specs.declared.value.Rid.{Rid}
 use Rattle.iso_types.specs.declared.value.TableId.{TableId}
-use Rattle.iso_types.specs.declared.value.Value.{Value}
-use Rattle.iso_types.specs.declared.value.Value.TheVariants.{Int, Null, Text}
 
 both : (a b : Bool) → (a && b) ≡ true → (a ≡ true) × (b ≡ true)
 both true b e = (refl, e)
 both false b e = cc
-
-list_is : (s t : List ℕ) → pointwise nat_eq s t ≡ true → s ≡ t
-list_is [] [] e = refl
-list_is [] (b ∷ t) e = cc
-list_is (a ∷ s) [] e = cc
-list_is (a ∷ s) (b ∷ t) e =
-    let p = both (nat_eq a b) (pointwise nat_eq s t) e in
-    ap (λ (x : ℕ). x ∷ s) (eqb-true a b p.0) ∙ ap (λ (l : List ℕ). b ∷ l) (list_is s t p.1)
-
-value_is : (v w : Value) → value_eq v w ≡ true → v ≡ w
-unfolding value_eq
-value_is Null Null e = refl
-value_is (Int m) (Int n) e = ap Int ((Decides-int_eq m n).0 e)
-value_is (Text s) (Text t) e = ap Text (list_is s t e)
-value_is v w e = cc
-
-table_is : (t u : TableId) → table_eq t u ≡ true → t ≡ u
-table_is t u e = ap (λ (k : ℕ). record { 0 = k }) (eqb-true t.0 u.0 e)
-
-rid_is : (r s : Rid) → rid_eq r s ≡ true → r ≡ s
-rid_is r s e = ap (λ (k : ℕ). record { 0 = k }) (eqb-true r.0 s.0 e)
-
-index_is : (i j : IndexId) → index_eq i j ≡ true → i ≡ j
-index_is i j e = ap (λ (k : ℕ). record { 0 = k }) (eqb-true i.0 j.0 e)
-
--- to be the same name is to be equal
-pub name_is : (n m : Name) → name_eq n m ≡ true → n ≡ m
-unfolding name_eq
-name_is (Table t) (Table u) e = ap Table (table_is t u e)
-name_is (Row t r) (Row u s) e =
-    let p = both (table_eq t u) (rid_eq r s) e in
-    ap (λ (x : TableId). Row x r) (table_is t u p.0) ∙ ap (λ (x : Rid). Row u x) (rid_is r s p.1)
-name_is (Key i v) (Key j w) e =
-    let p = both (index_eq i j) (value_eq v w) e in
-    ap (λ (x : IndexId). Key x v) (index_is i j p.0) ∙ ap (λ (x : Value). Key j x) (value_is v w p.1)
-name_is (End i) (End j) e = ap End (index_is i j e)
-name_is n m e = cc
 
 -- to look among the items that pass one test by another
 seek_by : {Y : Type 0} (t a b : Y → Bool) (y : Y) (ys : List Y) → t y ≡ (a y && b y) → (p q : Bool) → a y ≡ p → b y ≡ q
@@ -200,22 +156,6 @@ hold_of_name ps c n apart =
     ∙ ap (find (λ (h : locks.Hold). conn_eq h.conn c)) (holds_of_name ps n apart)
     ∙ seek_map (λ (h : locks.Hold). conn_eq h.conn c) (named_hold n) (line_at ps n).holders
 
-moved : (a b d : Bool) → (a && (b && d)) ≡ ((a && d) && b)
-moved true true true = refl
-moved true true false = refl
-moved true false true = refl
-moved true false false = refl
-moved false b d = refl
-
--- another connection's hold of S or NW
-pub guard_of_name : (ps : List Place) (c : Conn) (n : Name) → are_apart (names ps) ≡ true → locks.others_guard (holds_in ps) c n ≡ is_guarded_against (line_at ps n).holders c
-guard_of_name ps c n apart =
-    any_seek (λ (h : locks.Hold). not (conn_eq h.conn c) && (name_eq h.name n && (mode_eq h.mode S || mode_eq h.mode Nw)))
-    (λ (h : locks.Hold). not (conn_eq h.conn c) && (mode_eq h.mode S || mode_eq h.mode Nw)) (λ (h : locks.Hold). name_eq h.name n) (holds_in ps)
-    (λ h. moved (not (conn_eq h.conn c)) (name_eq h.name n) (mode_eq h.mode S || mode_eq h.mode Nw))
-    ∙ ap (list_any (λ (h : locks.Hold). not (conn_eq h.conn c) && (mode_eq h.mode S || mode_eq h.mode Nw))) (holds_of_name ps n apart)
-    ∙ any_map (λ (h : locks.Hold). not (conn_eq h.conn c) && (mode_eq h.mode S || mode_eq h.mode Nw)) (named_hold n) (line_at ps n).holders
-
 -- the table of a name is that of the head whose indexes were kept
 pub table_like : (head : Head) (n : Name) → table_in (map (λ (d : IndexDef). d.table) head.indexes) n ≡ table_of head n
 table_like head (Table t) = refl
@@ -223,19 +163,18 @@ table_like head (Row t r) = refl
 table_like head (Key i v) = slice_get-map (λ (d : IndexDef). d.table) head.indexes i.0
 table_like head (End i) = slice_get-map (λ (d : IndexDef). d.table) head.indexes i.0
 
-covers_by : (n : Name) (m : Mode) (o : Option Hold) (r : Option locks.Hold) → r ≡ option_map (named_hold n) o
+covers_by : (n : Name) (m : Mode) (o : Option Hold) (r : Option locks.Hold) → option_map (named_hold n) o ≡ r
     → option_map_or (λ (h : Hold). covers h.mode m) o false ≡ option_map_or (λ (a : Mode). covers a m) (option_map (λ (h : locks.Hold). h.mode) r) false
-covers_by n m None r e = rw e refl
-covers_by n m (Some h) r e = rw e refl
-
-covered_on : (ps : List Place) (c : Conn) (m : Mode) → are_apart (names ps) ≡ true → (o : Option TableId)
-    → option_map_or (is_covered_on ps c m) o false ≡ option_map_or (locks.is_covered_on (holds_in ps) c m) o false
-covered_on ps c m apart None = refl
-covered_on ps c m apart (Some t) = covers_by (Table t) m (hold_of (line_at ps (Table t)).holders c) (locks.hold_on (holds_in ps) c (Table t)) (hold_of_name ps c (Table t) apart)
+covers_by n m None r e = rw (sym e) refl
+covers_by n m (Some h) r e = rw (sym e) refl
 
 -- what the own table lock covers
-pub covered_of_name : (l : Ledger) (head : Head) (c : Conn) (n : Name) (m : Mode) → are_apart (names l.places) ≡ true
-    → l.index_tables ≡ map (λ (d : IndexDef). d.table) head.indexes → is_covered l c n m ≡ locks.is_covered head (holds_in l.places) c n m
-covered_of_name l head c n m apart e =
-    ap (λ (o : Option TableId). option_map_or (is_covered_on l.places c m) o false) (ap (λ (ts : List TableId). table_in ts n) e ∙ table_like head n)
-    ∙ covered_on l.places c m apart (table_of head n)
+pub covered_shown : (l : Ledger) (head : Head) (hs : List locks.Hold) (c : Conn) (n : Name) (m : Mode)
+    → ((k : Name) → option_map (named_hold k) (hold_of (line_at l.places k).holders c) ≡ locks.hold_on hs c k)
+    → l.index_tables ≡ map (λ (d : IndexDef). d.table) head.indexes → is_covered l c n m ≡ locks.is_covered head hs c n m
+covered_shown l head hs c n m holds e =
+    ap (λ (o : Option TableId). option_map_or (is_covered_on l.places c m) o false) (ap (λ (ts : List TableId). table_in ts n) e ∙ table_like head n) ∙ by (table_of head n)
+  where
+    by : (o : Option TableId) → option_map_or (is_covered_on l.places c m) o false ≡ option_map_or (locks.is_covered_on hs c m) o false
+    by None = refl
+    by (Some t) = covers_by (Table t) m (hold_of (line_at l.places (Table t)).holders c) (locks.hold_on hs c (Table t)) (holds (Table t))

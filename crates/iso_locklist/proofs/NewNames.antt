@@ -13,7 +13,7 @@ use Rattle.iso_locklist.proofs.AlikeHolds.{added_beside, opposed}
 use Rattle.iso_locklist.proofs.AlikeWaits.{ahead_at, beside, own, queued_at, queued_beside}
 use Rattle.iso_locklist.proofs.Holding.{none_counted}
 use Rattle.iso_locklist.proofs.Lists.{any_seek}
-use Rattle.iso_locklist.proofs.Names.{name_same}
+use Rattle.iso_lines.proofs.Names.{name_same}
 use Rattle.iso_locklist.proofs.Waits.{apart, stop}
 use Rattle.iso_modes.specs.Modes.{compatible, mode_eq}
 use Rattle.iso_modes.specs.declared.Mode.{Mode}

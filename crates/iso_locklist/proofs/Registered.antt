@@ -20,11 +20,12 @@ use Rattle.iso_types.specs.declared.value.TableId.{TableId}
 use Rattle.iso_lines.specs.Named.{Named, changed, line_of, line_under, same}
 use Rattle.iso_locklist.specs.Places.{Place, all_taken, are_apart, is_grantable_in, line_at, names, nobody, place, places_in, room_by}
 use Rattle.iso_locklist.proofs.Bridge.{counted_below, distinct_left, is_one, one_left, placed}
-use Rattle.iso_locklist.proofs.Lists.{name_is}
-use Rattle.iso_locklist.proofs.Names.{name_same}
+use Rattle.iso_lines.proofs.Same.{name_is}
+use Rattle.iso_lines.proofs.Names.{name_same}
 use Rattle.iso_locklist.proofs.Taken.{AllLines, all_lines, count_map}
 use Rattle.iso_locklist.proofs.Waits.{line_here, line_past}
 use Rattle.iso_queue.specs.Lines.{Line, claimed, has_edge, has_mode, hold_of, is_grantable, is_touched, is_waiter, taken_in, waiter_of}
+use Rattle.iso_locklist.specs.Holding.{AreLines}
 use Rattle.iso_locklist.specs.Lists.{asked_for, claimed_holds, claimed_waits}
 use Rattle.iso_queue.specs.Locks as locks
 use Rattle.iso_queue.specs.Queues as queues
@@ -232,13 +233,6 @@ stuck_holds hs xs c h = by (queues.wait_of xs c) h
 pub stuck_waits : (hs : List locks.Hold) (xs : List queues.Wait) (c : Conn) → queues.is_grantable hs xs c ≡ false → claimed_waits hs xs c ≡ xs
 stuck_waits hs xs c h = ap (λ (b : Bool). if b then queues.unqueued c xs else xs) h
 
--- the names of a register, each with its line, are its places
-pub named_places : (l : Named) → are_apart (names (places_in l)) ≡ true → (vs : List (Bor Name)) → map (λ n. n.now) vs ≡ keys_of l.index
-    → map (λ n. place n.now (line_at (places_in l) n.now)) vs ≡ places_in l
-named_places l unlike vs e =
-    let ps = places_in l in
-    sym (twice vs) ∙ ap (placed (line_at ps)) (e ∙ sym (under_names l.slots l.index)) ∙ sym (by_names ps ps (all_lines ps unlike))
-  where
-    twice : (ws : List (Bor Name)) → map (λ n. place n (line_at (places_in l) n)) (map (λ (n : Bor Name). n.now) ws) ≡ map (λ n. place n.now (line_at (places_in l) n.now)) ws
-    twice [] = refl
-    twice (w ∷ ws) = ap (λ (qs : List Place). place w.now (line_at (places_in l) w.now) ∷ qs) (twice ws)
+-- what stands for holds and waits as places does so as lines
+pub are_lines : (hs : List locks.Hold) (xs : List queues.Wait) (l : Named) (ps : List Place) → places_in l ≡ ps → AreLines hs xs (line_at ps) → AreLines hs xs (line_of l)
+are_lines hs xs l ps e are = subst (λ (f : Name → Line). AreLines hs xs f) (λ j n. places_line l n j) (subst (λ (qs : List Place). AreLines hs xs (line_at qs)) (sym e) are)

@@ -5,7 +5,7 @@ use Rattle.std.specs.List.{AllByRecursion}
 use Rattle.std.specs.Prelude.{count_by, filter, if◌then◌else◌, Option, None, Some}
 use Rattle.iso_locklist.specs.Lists.{asked_for}
 use Rattle.std.proofs.lemmas.Cmp.{nat_eq_equiv}
-use Rattle.iso_locklist.proofs.Names.{name_same}
+use Rattle.iso_lines.proofs.Names.{name_same}
 use Rattle.iso_locklist.specs.Places.{one}
 use Rattle.iso_locklist.proofs.Lists.{is_hold}
 use Rattle.iso_locklist.proofs.Taken.{count_cons}

@@ -3,7 +3,7 @@ use Rattle.std.proofs.Common.{◌≡◌, Bool, true, false, not, ◌&&◌, ◌||
 use Rattle.std.specs.List.{list_any}
 use Rattle.std.specs.Prelude.{filter, if◌then◌else◌, Option}
 use Rattle.std.proofs.lemmas.List.Folds.{list_any-append}
-use Rattle.iso_locklist.proofs.Names.{name_same}
+use Rattle.iso_lines.proofs.Names.{name_same}
 use Rattle.iso_modes.specs.Terms.{is_brief, is_fresh}
 use Rattle.iso_modes.specs.declared.Term.{Term}
 use Rattle.iso_queue.specs.Locks as locks

@@ -8,9 +8,9 @@ use Rattle.std.proofs.lemmas.List.Sums.{sum_by-cons}
 use Rattle.iso_locklist.specs.Lists.{IsSingle, holds_in, named_hold, named_wait, waits_in}
 use Rattle.iso_locklist.specs.Places.{are_apart, line_at, names, one, taken}
 use Rattle.iso_locklist.specs.Places.{Place}
-use Rattle.iso_locklist.proofs.Apart.{turned}
+use Rattle.iso_lines.proofs.Same.{turned}
 use Rattle.iso_locklist.proofs.Lists.{hold_of_name, seek_map}
-use Rattle.iso_locklist.proofs.Names.{name_same}
+use Rattle.iso_lines.proofs.Names.{name_same}
 use Rattle.iso_queue.specs.Limits as limits
 use Rattle.iso_queue.specs.Lines.{Line, hold_of, is_holder, is_touched, is_waiter, waiter_of}
 use Rattle.iso_queue.specs.Locks as locks

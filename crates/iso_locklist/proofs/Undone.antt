@@ -5,7 +5,7 @@ use Rattle.iso_locklist.specs.Holding.{AreLines, IsNew}
 use Rattle.iso_locklist.specs.Lists.{named_hold, named_wait}
 use Rattle.iso_locklist.specs.Places.{IsSameLimits, Ledger, Place, are_apart, line_at, names, nobody, released}
 use Rattle.iso_locklist.proofs.Bridge.{placed}
-use Rattle.iso_locklist.proofs.Lists.{name_is}
+use Rattle.iso_lines.proofs.Same.{name_is}
 use Rattle.iso_locklist.proofs.Registered.{by_names}
 use Rattle.iso_locklist.proofs.Taken.{all_lines}
 use Rattle.iso_modes.specs.declared.Mode.{Mode}

@@ -65,11 +65,6 @@ abbrev pub grants_in : List locks.Hold → List queues.Wait → Conn → Name �
 grants_in holds waits c n m =
     option_map_or (mode_eq (locks.target holds c n m)) (locks.held holds c n) false || not (queues.would_wait holds waits (waiting_for holds c n m Brief))
 
--- the lists after a request: it is added to the holds where it is granted, else its wait to the waits
-pub record IsAsked (granted : Bool) (old new : List Place) (c : Conn) (n : Name) (m : Mode) (t : Term) : Type 0 where
-  pub holds : HoldsAlike (holds_in new) (if granted then locks.added (holds_in old) c (asked_for n m t) else holds_in old)
-  pub waits : WaitsAlike (waits_in new) (if granted then waits_in old else queues.queued (holds_in old) (waiting_for (holds_in old) c n m t) (waits_in old))
-
 -- the holds after a claim: the wait's target and term are added where it has no edge
 abbrev pub claimed_holds : List locks.Hold → List queues.Wait → Conn → List locks.Hold
 claimed_holds holds waits c =
@@ -78,11 +73,6 @@ claimed_holds holds waits c =
 -- and the waits: it goes
 abbrev pub claimed_waits : List locks.Hold → List queues.Wait → Conn → List queues.Wait
 claimed_waits holds waits c = if queues.is_grantable holds waits c then queues.unqueued c waits else waits
-
--- the lists after a claim
-pub record IsClaimed (old new : List Place) (c : Conn) : Type 0 where
-  pub holds : HoldsAlike (holds_in new) (claimed_holds (holds_in old) (waits_in old) c)
-  pub waits : WaitsAlike (waits_in new) (claimed_waits (holds_in old) (waits_in old) c)
 
 -- in lists of all holds and waits: the connection holds no name twice, and has one wait at most
 pub record IsSingleIn (hs : List locks.Hold) (xs : List queues.Wait) (c : Conn) : Type 0 where

@@ -1,8 +1,8 @@
 -- The lock list: names, each with its holders and waiters. The order of the names is of no matter.
 -- Db2 LUW, 'locklist' and 'maxlocks' configuration parameters; the unit of a slot is this project's own.
 use Rattle.std.specs.List.{list_any}
-use Rattle.std.specs.Option.{option_and_then, option_map, option_map_or}
-use Rattle.std.specs.Prelude.{◌≡◌, map, ℕ, zero, suc, ◌+◌, Bool, true, false, not, ◌&&◌, List, [], ◌∷◌, if◌then◌else◌, nat_lt, count_by, find, Option, Result, Ok, Err}
+use Rattle.std.specs.Option.{option_map_or}
+use Rattle.std.specs.Prelude.{◌≡◌, map, ℕ, zero, suc, ◌+◌, Bool, true, false, not, ◌&&◌, List, [], ◌∷◌, if◌then◌else◌, nat_lt, count_by, Result, Ok, Err}
 pub use Rattle.iso_lines.specs.Named.{cancelled, nobody, released}
 pub use Rattle.iso_lines.specs.Tasks.{is_spared, table_in}
 use Rattle.iso_lines.specs.Named.{Named, line_under}
@@ -11,7 +11,7 @@ use Rattle.iso_locklist.specs.declared.room.Room.{Room}
 use Rattle.iso_locklist.specs.declared.room.Room.TheVariants.{AtCapacity, AtShare, Free}
 use Rattle.iso_modes.specs.Modes.{covers}
 use Rattle.iso_modes.specs.declared.Mode.{Mode}
-use Rattle.iso_queue.specs.Lines.{Line, edges_of, has_mode, hold_of, is_grantable, is_touched, is_waiter, waiter_of}
+use Rattle.iso_queue.specs.Lines.{Line, has_mode, hold_of, is_grantable, is_touched}
 use Rattle.iso_queue.specs.declared.types.Asked.{Asked}
 use Rattle.iso_types.specs.Ids.{name_eq}
 use Rattle.iso_types.specs.declared.value.Conn.{Conn}
@@ -114,15 +114,3 @@ is_covered_on ps c m t = option_map_or (λ h. covers h.mode m) (hold_of (line_at
 -- the connection's hold on the name's table covers the mode
 abbrev pub is_covered : Ledger → Conn → Name → Mode → Bool
 is_covered l c n m = option_map_or (is_covered_on l.places c m) (table_in l.index_tables n) false
-
--- the place where the connection waits
-abbrev pub awaited : List Place → Conn → Option Place
-awaited ps c = find (λ p. is_waiter p.queue.waiters c) ps
-
--- the name and the target of the connection's wait
-abbrev pub wait_in : List Place → Conn → Option (Name × Mode)
-wait_in ps c = option_and_then (λ p. option_map (λ w. (p.name, w.target)) (waiter_of p.queue.waiters c)) (awaited ps c)
-
--- the edges of the connection's wait: bit d for connection d
-abbrev pub edges_in : List Place → Conn → ℕ
-edges_in ps c = option_map_or (λ p. edges_of p.queue c) (awaited ps c) 0

@@ -24,7 +24,7 @@ ghost use Rattle.iso_types.specs.declared.head.Head.{Head as Declared};
 use crate::covering::index_tables;
 use crate::places::{Asking, same_mode};
 use crate::room::{LockFault, Room, room_beside, room_in};
-use crate::snapshot::{in_order, list_lines};
+use crate::snapshot::list_lines;
 use iso_lines::{Change, Register, Task, table_of};
 use iso_modes::{Mode, Term, covers, joined};
 use iso_queue::{Asked, Claimed, Hold, LockLine, Queue};
@@ -39,7 +39,6 @@ pub struct LockList {
     register: Register,
     share: u32,
     slots: u32,
-    index_tables: Items<TableId>,
     alloc: Global,
 }
 
@@ -48,7 +47,7 @@ impl Model for LockList {
 
     ghost Value = { Ledger };
 
-    ghost view = { λ l. record { places = places_in l.register.lines; share = l.share; slots = l.slots; index_tables = l.index_tables } };
+    ghost view = { λ l. record { places = places_in l.register.lines; share = l.share; slots = l.slots; index_tables = l.register.tables } };
 
     ghost invariant = { λ l. IsLedger (places_in l.register.lines) };
 }
@@ -65,13 +64,13 @@ impl LockList {
         ensures slots { IfOk result (λ l. l.slots ≡ lock_slots head.now.config) }
         ensures index_tables { IfOk result (λ l. l.index_tables ≡ map (λ d. d.table) head.now.indexes) }
     {
-        let register = Register::new(alloc)?;
+        let tables = index_tables(alloc, head.indexes.as_slice())?;
+        let register = Register::new(alloc, tables)?;
         register.names_once();
         Ok(LockList {
             register,
             share: head.config.share(),
             slots: head.config.slots(),
-            index_tables: index_tables(alloc, head.indexes.as_slice())?,
             alloc,
         })
     }
@@ -102,8 +101,8 @@ impl LockList {
         self.room_at(conn, more)
     }
 
-    /// How many holds the connection has on the rows and keys of the table that are not Brief. Its cost is the number of
-    /// its names. Db2 LUW, 'Lock escalation'; that Brief holds do not count is this project's own.
+    /// How many holds the connection has on the rows and keys of the table that are not Brief. Its cost is constant.
+    /// Db2 LUW, 'Lock escalation'; that Brief holds do not count is this project's own.
     pub fn weight(&self, conn: Conn, table: TableId) -> u32
         requires { conn.0 < 32 }
         ensures { (head : Declared) (hs : List Held) (xs : List Awaiting) → HasTables head self.now → LocksAre hs xs self.now → IsSingleIn hs xs conn → result ≡ limits.weight head hs conn table }
@@ -403,9 +402,8 @@ impl LockList {
         requires { length head.now.conns ≤ 32 }
         ensures { (hs : List Held) (xs : List Awaiting) → LocksAre hs xs self.now → IfOk result (λ lines. lines ≡ snapshot head.now hs xs) }
     {
-        let names = self.register.names(self.alloc)?;
-        let sorted = in_order(head, names)?;
-        list_lines(self.alloc, head, &self.register, &sorted)
+        let names = self.register.in_order(self.alloc, head)?;
+        list_lines(self.alloc, head, &self.register, &names)
     }
 
     /// The connection's hold in the line of the name.
@@ -471,7 +469,7 @@ impl LockList {
     fn is_covered_at(&self, conn: Conn, name: &Name, mode: Mode) -> bool
         ensures { result ≡ is_covered self.now conn name.now mode }
     {
-        let Some(table) = table_of(self.index_tables.as_slice(), name) else {
+        let Some(table) = table_of(self.register.tables(), name) else {
             return false;
         };
         match self.hold_at(conn, &Name::Table(table)) {
@@ -532,8 +530,7 @@ impl LockList {
         requires { conn.0 < 32 }
         ensures { result ≡ weight_in self.now conn table }
     {
-        self.register
-            .weight(conn, self.index_tables.as_slice(), table)
+        self.register.weight(conn, table)
     }
 
     /// The sum of the counts.
@@ -560,7 +557,7 @@ impl LockList {
         ensures is_apart { are_apart (names self.new.places) ≡ true }
         ensures limits { IsSameLimits self.new self.old }
     {
-        self.register.work(conn, self.index_tables.as_slice(), task);
+        self.register.work(conn, task);
         self.register.names_once();
     }
 }

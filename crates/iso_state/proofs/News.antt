@@ -13,7 +13,7 @@ use Rattle.iso_locklist.proofs.Alike.{count_parts, find_parts}
 use Rattle.iso_locklist.proofs.AlikeHolds.{opposed}
 use Rattle.iso_locklist.proofs.AlikeWaits.{ahead_at, beside, own, queued_at, queued_beside}
 use Rattle.iso_locklist.proofs.Lists.{any_seek, is_hold, name_is}
-use Rattle.iso_locklist.proofs.Names.{name_same}
+use Rattle.iso_locklist.proofs.Lists.{name_same}
 use Rattle.iso_locklist.proofs.Settles.{gone, kept}
 use Rattle.iso_locklist.proofs.Taken.{found}
 use Rattle.iso_locklist.proofs.Waits.{apart, stop}

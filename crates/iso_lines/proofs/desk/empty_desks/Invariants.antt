@@ -1,5 +1,5 @@
 use Rattle.std.proofs.Common.{◌≡◌, length}
-use Rattle.iso_lines.specs.Locks.{AreIdle}
+use Rattle.iso_lines.specs.Registers.{AreIdle}
 use Rattle.iso_lines.proofs.desk.empty_desks.Given as goal
 
 abbrev pub invariant-loop-turn : goal.invariant-loop-turn

@@ -2,7 +2,7 @@ use Rattle.std.proofs.Common.{◌++◌, ◌∙◌, List, Bor, ap, sym}
 use Rattle.iso_lines.specs.Named.{line_of}
 use Rattle.iso_locklist.specs.Places.{place}
 use Rattle.iso_locklist.specs.Snapshots.{lines_of}
-use Rattle.iso_locklist.proofs.Listed.{flat_more}
+use Rattle.iso_locklist.proofs.Listing.{flat_more}
 use Rattle.iso_queue.specs.declared.LockLine.{LockLine}
 use Rattle.iso_types.specs.declared.value.Name.{Name}
 use Rattle.iso_locklist.proofs.snapshot.list_lines.Goals as goal

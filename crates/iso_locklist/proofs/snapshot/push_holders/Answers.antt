@@ -1,5 +1,5 @@
 use Rattle.iso_locklist.specs.Places.{place}
-use Rattle.iso_locklist.proofs.Listed.{holder_more}
+use Rattle.iso_locklist.proofs.Listing.{holder_more}
 use Rattle.iso_locklist.proofs.snapshot.push_holders.Goals as goal
 
 pub loop-conn-preserved : goal.loop-conn-preserved

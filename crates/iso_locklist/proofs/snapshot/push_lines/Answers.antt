@@ -3,7 +3,7 @@ use Rattle.std.proofs.lemmas.List.{append-nil}
 use Rattle.iso_lines.specs.Named.{line_of}
 use Rattle.iso_locklist.specs.Places.{place}
 use Rattle.iso_locklist.specs.Snapshots.{lines_of}
-use Rattle.iso_locklist.proofs.Listed.{lines_nobody}
+use Rattle.iso_locklist.proofs.Listing.{lines_nobody}
 use Rattle.iso_queue.specs.Lines.{Line}
 use Rattle.iso_queue.specs.declared.LockLine.{LockLine}
 use Rattle.iso_locklist.proofs.snapshot.push_lines.Goals as goal

@@ -1,7 +1,7 @@
 use Rattle.std.proofs.Common.{◌∙◌, sym, ap, subst, if◌then◌else◌}
 use Rattle.iso_queue.specs.Lines.{asked, is_granted, is_used}
 use Rattle.iso_queue.specs.declared.types.Asked.{Asked as Outcome}
-use Rattle.iso_lines.specs.Named.{IsWhole, kept, key_of, line_of, nobody}
+use Rattle.iso_lines.specs.Named.{IsWhole, kept, line_of}
 use Rattle.iso_lines.proofs.Touched.{either_way, found-line, touched-written, line-written, no_some, others-touched}
 use Rattle.iso_lines.proofs.Parts.{asked_own}
 use Rattle.iso_lines.proofs.Whole.{none_there, touched_used, whole-touched}

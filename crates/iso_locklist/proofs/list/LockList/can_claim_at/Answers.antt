@@ -1,7 +1,8 @@
-use Rattle.std.proofs.Common.{◌≡◌, ◌∙◌, true, subst, ap}
-use Rattle.iso_locklist.specs.Places.{Ledger, are_apart, is_grantable_in, names}
-use Rattle.iso_locklist.proofs.Holding.{grantable_shown}
-use Rattle.iso_locklist.proofs.Registered.{told_grantable}
+use Rattle.std.proofs.Common.{◌∙◌, ap}
+use Rattle.iso_locklist.specs.Places.{Ledger, is_grantable_in}
+use Rattle.iso_locklist.proofs.Edges.{told_claim}
+use Rattle.iso_locklist.proofs.Registered.{are_lines, told_grantable}
+use Rattle.iso_lines.specs.Named.{line_of}
 use Rattle.iso_locklist.proofs.list.LockList.can_claim_at.Goals as goal
 
 pub returns-clause-answer : goal.returns-clause-answer
@@ -11,4 +12,7 @@ returns-clause-answer c =
 
 pub returns-clause-told : goal.returns-clause-told
 returns-clause-told c = λ hs xs are single.
-    returns-clause-answer c ∙ grantable_shown c.args.self.now.places (subst (λ (l : Ledger). are_apart (names l.places) ≡ true) c.self.view_is c.self.invariant.apart) hs xs are c.args.conn single
+    let lines = c.self.inside.register.lines in
+    c.is_some.ensures
+    ∙ told_claim hs xs (line_of lines) (are_lines hs xs lines c.args.self.now.places (ap (λ (l : Ledger). l.places) c.self.view_is) are) c.args.conn single
+    c.claimable.result c.claimable.ensures.some c.claimable.ensures.none

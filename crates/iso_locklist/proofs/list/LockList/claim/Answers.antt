@@ -3,8 +3,7 @@ use Rattle.std.specs.Prelude.{if◌then◌else◌}
 use Rattle.iso_locklist.specs.Holding.{LocksAre}
 use Rattle.iso_locklist.specs.Lists.{claimed_waits}
 use Rattle.iso_locklist.specs.Places.{line_at}
-use Rattle.iso_locklist.proofs.ClaimedLists.{claimed_lists}
-use Rattle.iso_locklist.proofs.Holding.{claimed_are}
+use Rattle.iso_locklist.proofs.Placings.{claimed_are}
 use Rattle.iso_locklist.proofs.Registered.{claimed_stuck, grantable_nowhere, stuck_holds, stuck_waits}
 use Rattle.iso_queue.specs.Locks.{Hold}
 use Rattle.iso_queue.specs.Queues.{Wait, is_grantable}
@@ -13,10 +12,8 @@ use Rattle.iso_locklist.proofs.list.LockList.claim.Goals as goal
 
 pub returns-then-can_claim_at-clause-lists : goal.returns-then-can_claim_at-clause-lists
 returns-then-can_claim_at-clause-lists c = λ hs xs are single.
-    let old = c.args.self.now.places in
-    let new = c.work.new.self.places in
-    claimed_are old new c.work.ensures.was_apart c.work.ensures.is_apart hs xs are c.args.conn single
-    (λ le. claimed_lists old new c.args.conn c.work.ensures.was_apart c.work.ensures.is_apart le c.work.ensures.lines)
+    claimed_are hs xs (line_at c.args.self.now.places) (line_at c.work.new.self.places) are c.args.conn single
+    (sym (c.can_claim_at.ensures.told hs xs are single) ∙ c.if-can_claim_at.true) c.work.ensures.lines
 
 pub returns-then-can_claim_at-clause-told : goal.returns-then-can_claim_at-clause-told
 returns-then-can_claim_at-clause-told c = λ hs xs are single.

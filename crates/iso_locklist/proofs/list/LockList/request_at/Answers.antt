@@ -1,12 +1,10 @@
-use Rattle.std.proofs.Common.{◌≡◌, ◌∙◌, ◌∷◌, ◌++◌, [], List, ◌<◌, ℕ, Bool, true, false, ap, arith, subst, sym}
+use Rattle.std.proofs.Common.{◌≡◌, ◌∙◌, ◌∷◌, ◌++◌, [], List, ◌<◌, ℕ, Bool, false, ap, arith, subst, sym}
 use Rattle.std.specs.Prelude.{if◌then◌else◌}
 use Rattle.iso_lines.specs.Locks.{counts_below}
-use Rattle.iso_locklist.specs.Lists.{IsAsked, grants_in}
-use Rattle.iso_locklist.specs.Places.{Ledger, all_taken, are_apart, line_at, names, need_of, places_in, room_for, room_to_ask, taken}
+use Rattle.iso_locklist.specs.Places.{Ledger, all_taken, line_at, names, need_of, places_in, room_for, room_to_ask, taken}
 use Rattle.iso_locklist.specs.declared.room.Room.{Room}
 use Rattle.iso_locklist.specs.declared.room.Room.TheVariants.{Free}
-use Rattle.iso_locklist.proofs.AskedLists.{asked_lists}
-use Rattle.iso_locklist.proofs.Holding.{asked_are, grants_shown}
+use Rattle.iso_locklist.proofs.Placings.{asked_are}
 use Rattle.iso_locklist.proofs.Registered.{mode_touched, names_in, places_apart, places_line, room_more, summed_in}
 use Rattle.iso_queue.specs.Lines.{Line, asked, has_mode, is_granted, is_touched}
 use Rattle.iso_types.specs.declared.value.Name.{Name}
@@ -54,15 +52,8 @@ returns-clause-others c = λ n ne.
 
 pub returns-clause-lists : goal.returns-clause-lists
 returns-clause-lists c = λ hs xs are idle.
-    let old = c.args.self.now.places in
-    let new = places_in c.request.new.self.lines in
-    let unlike = (subst (λ (l : Ledger). are_apart (names l.places) ≡ true) c.self.view_is c.self.invariant.apart) in
-    let still = places_apart c.request.new.self.lines c.names_once.ensures in
-    let told = grants_shown old unlike hs xs are c.args.conn c.args.name.now c.args.mode idle in
-    let lists = asked_lists old new c.args.conn c.args.name.now c.args.mode c.args.term unlike still (returns-clause-line c) (returns-clause-others c) in
-    let both = asked_are old new unlike still hs xs are c.args.conn c.args.name.now c.args.mode c.args.term
-    (grants_in hs xs c.args.conn c.args.name.now c.args.mode)
-    (subst (λ (b : Bool). IsAsked b old new c.args.conn c.args.name.now c.args.mode c.args.term) told lists) in
+    let both = asked_are hs xs (line_at c.args.self.now.places) are c.args.conn c.args.name.now c.args.mode idle c.args.term (line_at (places_in c.request.new.self.lines))
+    (returns-clause-line c) (returns-clause-others c) in
     record { granted_are = both.0; queued_are = both.1 }
 
 pub returns-clause-names : goal.returns-clause-names

@@ -1,7 +1,7 @@
 use Rattle.std.proofs.Common.{◌∙◌, ap, sym}
 use Rattle.std.specs.Option.{option_map}
 use Rattle.iso_locklist.specs.Places.{line_at}
-use Rattle.iso_locklist.proofs.Awaited.{wait_nowhere, wait_there}
+use Rattle.iso_locklist.proofs.Edges.{wait_nowhere, wait_there}
 use Rattle.iso_locklist.proofs.Registered.{some_of}
 use Rattle.iso_modes.specs.declared.Mode.{Mode}
 use Rattle.iso_queue.specs.Lines.{waiter_of}

@@ -1,9 +1,9 @@
 use Rattle.std.proofs.Common.{rules, Bor}
 use Rattle.std.proofs.lemmas.Fn.{always_returns_same}
-use Rattle.iso_locklist.proofs.Order.{name_weak}
+use Rattle.iso_lines.proofs.TotalOrder.{name_weak}
 use Rattle.iso_queue.specs.Snapshots.{name_lt}
 use Rattle.iso_types.specs.declared.value.Name.{Name}
-use Rattle.iso_locklist.proofs.snapshot.in_order.Goals as goal
+use Rattle.iso_lines.proofs.order.in_order.Goals as goal
 
 pub returns-clause-order : goal.returns-clause-order
 returns-clause-order c =

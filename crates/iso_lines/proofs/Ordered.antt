@@ -1,27 +1,32 @@
--- The names of a snapshot: those in use, out of a list in order.
-use Rattle.std.proofs.Common.{◌≡◌, ◌∙◌, ◌<◌, ◌+◌, Bool, true, false, not, ◌&&◌, ◌||◌, List, [], ◌∷◌, length, get_or, map, refl, ap, sym, subst, arith, ◌≤◌}
+-- The names that somebody holds or awaits, in order.
+use Rattle.std.proofs.Common.{Bor, ℕ, is_some, Option, None, Some, ◌≡◌, ◌∙◌, ◌<◌, ◌+◌, Bool, true, false, ◌||◌, List, [], ◌∷◌, length, get_or, map, refl, ap, sym, subst, arith, ◌≤◌}
 use Rattle.std.specs.List.{AllByRecursion, IsDistinct, list_any}
-use Rattle.std.specs.List.Sorted.{IsSortedBy, IsStrictlySortedBy}
+use Rattle.std.specs.List.Sorted.{IsPermutation, IsSortedBy, IsStrictlySortedBy}
+use Rattle.std.specs.Map.{keys_of}
 use Rattle.std.specs.Ordering.{is_lt, ordering_reverse}
 use Rattle.std.specs.Prelude.{filter}
 use Rattle.std.specs.declared.cmp.Ordering.{Ordering}
 use Rattle.std.specs.declared.cmp.Ordering.TheVariants.{Equal, Greater, Less}
 use Rattle.std.proofs.lemmas.Cmp.{tied_itself}
 use Rattle.std.proofs.lemmas.List.{get_or-map, length-map}
-use Rattle.std.proofs.lemmas.Map.Keys.{apart_from_distinct, sorted_from_all_adjacent, sorted_head, sorted_tail}
-use Rattle.iso_locklist.specs.Places.{are_apart}
-use Rattle.iso_locklist.proofs.Apart.{turned}
-use Rattle.iso_locklist.proofs.Lists.{name_is}
-use Rattle.iso_locklist.proofs.Names.{name_same}
-use Rattle.iso_locklist.proofs.Order.{lt_is, name_cmp, name_total, same_of}
-use Rattle.iso_locklist.proofs.Settles.{alike_by, gone, kept, or_right}
+use Rattle.std.proofs.lemmas.Map.Keys.{IsDistinct-IsPermutation, apart_from_distinct, sorted_from_all_adjacent, sorted_head, sorted_tail}
+use Rattle.std.proofs.lemmas.List.Sorted.{IsPermutation-map, list_any-IsPermutation}
+use Rattle.std.proofs.lemmas.Map.Made.{is_some-lookup}
+use Rattle.iso_lines.proofs.Loose.{or_second}
+use Rattle.iso_lines.proofs.Names.{name_same}
+use Rattle.iso_lines.proofs.TotalOrder.{lt_is, name_cmp, name_total, same_of}
+use Rattle.iso_lines.proofs.Parts.{gone, kept}
+use Rattle.iso_lines.proofs.Same.{name_is, turned}
+use Rattle.iso_lines.proofs.Tests.{same_names, same_test}
+use Rattle.iso_lines.specs.Named.{IsWhole, Named, key_of, line_of, same}
+use Rattle.iso_queue.specs.Lines.{is_used}
 use Rattle.iso_queue.specs.Snapshots.{name_lt, ordered, with_name}
 use Rattle.iso_types.specs.Ids.{name_eq}
 use Rattle.iso_types.specs.declared.head.Head.{Head}
 use Rattle.iso_types.specs.declared.value.Name.{Name}
 
 -- all of them come later
-abbrev pub AllAbove : Head → Name → List Name → Type 0
+abbrev AllAbove : Head → Name → List Name → Type 0
 AllAbove head n ms = AllByRecursion (λ m. name_cmp head n m ≡ Less) ms
 
 -- the list has the name
@@ -68,8 +73,12 @@ all_kept P p [] all = tt
 all_kept P p (x ∷ xs) all = kept_by P p x xs (p x) refl all.0 (all_kept P p xs all.1)
 
 -- the name, or what passes
-abbrev pub or_name : Name → (Name → Bool) → Name → Bool
+abbrev or_name : Name → (Name → Bool) → Name → Bool
 or_name n p m = name_eq n m || p m
+
+alike_by : {X : Type 0} (p q : X → Bool) (x : X) (xs : List X) (b : Bool) → q x ≡ b → p x ≡ q x → filter p xs ≡ filter q xs → filter p (x ∷ xs) ≡ filter q (x ∷ xs)
+alike_by p q x xs true e same ih = kept p x xs (same ∙ e) ∙ ap (λ (l : List _). x ∷ l) ih ∙ sym (kept q x xs e)
+alike_by p q x xs false e same ih = gone p x xs (same ∙ e) ∙ ih ∙ sym (gone q x xs e)
 
 unlike : (head : Head) (n : Name) (p : Name → Bool) (ms : List Name) → AllAbove head n ms → filter (or_name n p) ms ≡ filter p ms
 unlike head n p [] above = refl
@@ -89,7 +98,7 @@ past : (head : Head) (n : Name) (p : Name → Bool) (y : Name) (ys : List Name) 
     → with_name head n (filter p ys) ≡ filter (or_name n p) ys → with_name head n (filter p (y ∷ ys)) ≡ filter (or_name n p) (y ∷ ys)
 past head n p y ys true e lt ih =
     ap (with_name head n) (kept p y ys e) ∙ with_past head n y (filter p ys) (not_less head y n lt) (turned y n (other head y n lt))
-    ∙ ap (λ (l : List Name). y ∷ l) ih ∙ sym (kept (or_name n p) y ys (or_right (name_eq n y) (p y) e))
+    ∙ ap (λ (l : List Name). y ∷ l) ih ∙ sym (kept (or_name n p) y ys (or_second (name_eq n y) (p y) e))
 past head n p y ys false e lt ih =
     ap (with_name head n) (gone p y ys e) ∙ ih
     ∙ sym (gone (or_name n p) y ys (ap (λ (b : Bool). b || p y) (turned y n (other head y n lt)) ∙ e))
@@ -123,36 +132,10 @@ none_kept [] = refl
 none_kept (y ∷ ys) = none_kept ys
 
 -- names of the list, in order and each once, are what the list keeps of them
-pub ordered_is : (head : Head) (ys xs : List Name) → IsStrictlySortedBy (name_cmp head) ys → AllByRecursion (λ (x : Name). has ys x ≡ true) xs
+ordered_is : (head : Head) (ys xs : List Name) → IsStrictlySortedBy (name_cmp head) ys → AllByRecursion (λ (x : Name). has ys x ≡ true) xs
     → ordered head xs ≡ filter (has xs) ys
 ordered_is head ys [] up all = sym (none_kept ys)
 ordered_is head ys (x ∷ xs) up all = ap (with_name head x) (ordered_is head ys xs up all.1) ∙ placed head x (has xs) ys up all.0
-
-pub or_none : (a b : Bool) → (a || b) ≡ false → (a ≡ false) × (b ≡ false)
-or_none true b e = cc
-or_none false b e = (refl, e)
-
-unequal : (n : Name) (ms : List Name) → has ms n ≡ false → AllByRecursion (λ (m : Name). name_eq n m ≡ false) ms
-unequal n [] none = tt
-unequal n (m ∷ ms) none =
-    let parts = or_none (name_eq m n) (has ms n) none in
-    (turned m n parts.0, unequal n ms parts.1)
-
-pub and_parts : (a b : Bool) → (a && b) ≡ true → (a ≡ true) × (b ≡ true)
-and_parts true b e = (refl, e)
-and_parts false b e = cc
-
-pub not_true : (b : Bool) → not b ≡ true → b ≡ false
-not_true true e = cc
-not_true false e = refl
-
--- names that are apart are distinct
-pub apart_distinct : (ns : List Name) → are_apart ns ≡ true → IsDistinct name_eq ns
-unfolding IsDistinct
-apart_distinct [] apart = tt
-apart_distinct (n ∷ ns) apart =
-    let parts = and_parts (not (has ns n)) (are_apart ns) apart in
-    (unequal n ns (not_true (has ns n) parts.0), apart_distinct ns parts.1)
 
 flips_by : (n m : Name) (a b : Bool) → name_eq n m ≡ a → name_eq m n ≡ b → name_eq n m ≡ name_eq m n
 flips_by n m true true e f = e ∙ sym f
@@ -160,7 +143,7 @@ flips_by n m false false e f = e ∙ sym f
 flips_by n m true false e f = cc (sym e ∙ turned m n f)
 flips_by n m false true e f = cc (sym f ∙ turned n m e)
 
-pub flips : (n m : Name) → name_eq n m ≡ name_eq m n
+flips : (n m : Name) → name_eq n m ≡ name_eq m n
 flips n m = flips_by n m (name_eq n m) (name_eq m n) refl refl
 
 rises_by : (head : Head) (n m : Name) (o : Ordering) → name_cmp head n m ≡ o → name_lt head m n ≡ false → name_eq n m ≡ false → name_cmp head n m ≡ Less
@@ -171,7 +154,7 @@ rises_by head n m Greater e f g =
     cc (sym (less head m n back) ∙ f)
 
 -- sorted and distinct, they rise
-pub rises : {X : Type 0} (head : Head) (f : X → Name) (xs : List X) → IsSortedBy (λ (x y : X). name_lt head (f x) (f y)) xs → IsDistinct name_eq (map f xs)
+rises : {X : Type 0} (head : Head) (f : X → Name) (xs : List X) → IsSortedBy (λ (x y : X). name_lt head (f x) (f y)) xs → IsDistinct name_eq (map f xs)
     → IsStrictlySortedBy (name_cmp head) (map f xs)
 unfolding IsStrictlySortedBy
 rises head f [] up apart = tt
@@ -191,3 +174,43 @@ rises head f (x ∷ xs) up apart =
     let not_back : name_lt head (get_or (map f all) (k + 1) d) (get_or (map f all) k d) ≡ false =
     ap (λ (n : Name). name_lt head n (get_or (map f all) k d)) g ∙ ap (name_lt head (f (get_or all (k + 1) x))) e ∙ up k x zero_le below in
     rises_by head (get_or (map f all) k d) (get_or (map f all) (k + 1) d) (name_cmp head (get_or (map f all) k d) (get_or (map f all) (k + 1) d)) refl not_back ne)
+
+-- ---- the names of lines
+each_one : (P : Name → Type 0) (ns : List Name) → ((n : Name) → has ns n ≡ true → P n) → AllByRecursion P ns
+each_one P [] all = tt
+each_one P (n ∷ ns) all = (
+  all n (ap (λ (b : Bool). b || has ns n) (name_same n)),
+  each_one P ns (λ m e. all m (or_second (name_eq n m) (has ns m) e)),
+)
+
+all_pass : (p : Name → Bool) (ns : List Name) → ((n : Name) → has ns n ≡ true → p n ≡ true) → filter p ns ≡ ns
+all_pass p [] all = refl
+all_pass p (n ∷ ns) all =
+    kept p n ns (all n (ap (λ (b : Bool). b || has ns n) (name_same n)))
+    ∙ ap (λ (l : List Name). n ∷ l) (all_pass p ns (λ m e. all m (or_second (name_eq n m) (has ns m) e)))
+
+has_keys : (ks : List Name) (n : Name) → list_any (same n) ks ≡ has ks n
+has_keys [] n = refl
+has_keys (k ∷ ks) n = ap (λ (b : Bool). b || list_any (same n) ks) (same_names n k ∙ flips n k) ∙ ap (λ (b : Bool). name_eq k n || b) (has_keys ks n)
+
+module _ (head : Head) (l : Named) (whole : IsWhole l.index l.slots) where
+  -- who is used is kept, and only who is used
+  used_kept : (n : Name) → is_used (line_of l n) ≡ has (keys_of l.index) n
+  used_kept n = by (key_of l.index n) refl ∙ is_some-lookup (same n) l.index ∙ has_keys (keys_of l.index) n
+    where
+      by : (o : Option ℕ) → key_of l.index n ≡ o → is_used (line_of l n) ≡ is_some (key_of l.index n)
+      by None e = rw e refl
+      by (Some k) e = whole.used n (ap is_some e) ∙ sym (ap is_some e)
+
+  -- kept names in their order are any list of the used names, in order and each once
+  pub in_order_is : (ps rs : List (Bor Name)) → map (λ p. p.now) ps ≡ keys_of l.index → IsDistinct same (keys_of l.index) → IsPermutation ps rs
+      → IsSortedBy (λ p q. name_lt head p.now q.now) rs → (ns : List Name) → ((n : Name) → has ns n ≡ is_used (line_of l n)) → map (λ p. p.now) rs ≡ ordered head ns
+  in_order_is ps rs keys once moved up ns members =
+      let f = (λ (p : Bor Name). p.now) in
+      let ys = map f rs in
+      let turns : IsPermutation (map f ps) ys = IsPermutation-map f ps rs moved in
+      let apart : IsDistinct name_eq (map f ps) = subst (λ (ks : List Name). IsDistinct name_eq ks) (sym keys) (subst (λ t. IsDistinct t (keys_of l.index)) same_test once) in
+      let rising : IsStrictlySortedBy (name_cmp head) ys = rises head f rs up (IsDistinct-IsPermutation name_eq flips (map f ps) ys turns apart) in
+      let there : (n : Name) → has ys n ≡ has ns n = λ n.
+      sym (list_any-IsPermutation (λ (m : Name). name_eq m n) (map f ps) ys turns) ∙ ap (λ (ks : List Name). has ks n) keys ∙ sym (used_kept n) ∙ sym (members n) in
+      sym (ordered_is head ys ns rising (each_one (λ (n : Name). has ys n ≡ true) ns (λ n e. there n ∙ e)) ∙ all_pass (has ns) ys (λ n e. sym (there n) ∙ e))
