@@ -16,6 +16,7 @@ pub mod Turning
 pub mod LookStepping
 pub mod WriteStepping
 pub mod Undoing
+pub mod Unfresh
 pub mod Quieting
 pub mod Making
 pub mod Dues

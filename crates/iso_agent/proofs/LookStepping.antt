@@ -1,11 +1,12 @@
 -- What is kept of a look's answer is what its statement hears of the entry.
-use Rattle.std.proofs.Common.{◌≡◌, ◌<◌, Bool, true, false, List, [], ◌∷◌, ◌++◌, refl, sym, ap, ◌∙◌, subst, if◌then◌else◌}
+use Rattle.std.proofs.Common.{◌≡◌, ◌<◌, Bool, true, false, ◌&&◌, List, [], ◌∷◌, ◌++◌, refl, sym, ap, ◌∙◌, subst, if◌then◌else◌}
 use Rattle.std.proofs.lemmas.Bool.{ltb-true}
 use Rattle.std.specs.Prelude.{nat_lt}
 use Rattle.iso_agent.proofs.Pinned.{pinned-unfresh}
+use Rattle.iso_agent.proofs.Unfresh.{fresh-told}
 use Rattle.iso_agent.proofs.Stepping.{goes, limit-ends, limit-kept, lock-pins, waits-now}
 use Rattle.iso_agent.specs.Fits.{Tells}
-use Rattle.iso_agent.specs.Steps.{HasPin, HasStepped, kept_of_lock, kept_of_look}
+use Rattle.iso_agent.specs.Steps.{HasPin, HasStepped, kept_of_lock, kept_of_look, leaves_fresh}
 use Rattle.iso_agent.specs.declared.agent.Kept.{Kept}
 use Rattle.iso_agent.specs.declared.stepped.Stepped.TheVariants.{Goes}
 use Rattle.iso_conduct.specs.Conduct.{ends, heard}
@@ -33,7 +34,7 @@ use Rattle.iso_reads.proofs.Beside.{limit-comes}
 use Rattle.iso_reads.specs.Answers.{Shows, answer_at, answer_by, comes_at_limit, is_beside, limited, pin_of, seen}
 use Rattle.iso_reads.specs.declared.outcomes.Looked.{Looked}
 use Rattle.iso_reads.specs.declared.outcomes.Looked.TheVariants.{EndOfTable, Pinned, Shown}
-use Rattle.iso_state.specs.Stands.{Content}
+use Rattle.iso_state.specs.Stands.{Content, is_claimed}
 use Rattle.iso_types.specs.declared.desk.Phase.{Phase}
 use Rattle.iso_types.specs.declared.desk.Phase.TheVariants.{Running}
 use Rattle.iso_types.specs.declared.head.Head.{Head}
@@ -65,6 +66,10 @@ module _ (p : Content) (c : Conn) (t : TableId) (r : Rid) (want : Want) (s : IsS
   abbrev later : Act → World
   later a = after p.head (world p.head p.history) (by_agent c a)
 
+  -- the answer tells of a Fresh hold on the row
+  abbrev told_fresh : Act → Bool
+  told_fresh a = leaves_fresh want (is_claimed (w.last c)) && is_fresh_on (later a) c (Row t r)
+
   abbrev heard_of : Act → List Told
   heard_of a = heard (world p.head p.history) (after p.head (world p.head p.history) (by_agent c a)) c a
 
@@ -92,10 +97,10 @@ module _ (p : Content) (c : Conn) (t : TableId) (r : Rid) (want : Want) (s : IsS
       (limit-kept p.head w c runs b e, lock-pins p.head w c runs (answer_of (at_limit p.head w c)) b))
 
   by-outcome : may_look p.head w c t r want ≡ true → (o : Outcome) → look p.head w c t r want ≡ o → (looked : Looked) → looked ≡ answer_by p c t r want o
-      → Shows looked (shown w c t r want) → (fresh b : Bool) → fresh ≡ is_fresh_on (later (look_by p.head w c t r want o)) c (Row t r)
+      → Shows looked (shown w c t r want) → (fresh b : Bool) → fresh ≡ told_fresh (look_by p.head w c t r want o)
       → b ≡ is_phase (phase (later (look_by p.head w c t r want o)) c) Phase.Waiting
       → Keeps (kept_of_look looked fresh b) (heard_of (look_by p.head w c t r want o)) × (ends (look_by p.head w c t r want o) ≡ false)
-  by-outcome may (Gives Got.Granted) k looked is shows fresh b f e = (granted-kept may k looked is shows fresh b f, refl)
+  by-outcome may (Gives Got.Granted) k looked is shows fresh b f e = (granted-kept may k looked is shows fresh b (fresh-told p.head w c t r want fresh f), refl)
   by-outcome may (Gives (Got.Queued m)) k looked is shows fresh b f e =
       (subst (λ y. Keeps (kept_of_look y fresh b) (heard_of (Look t r want (Got.Queued m)))) (sym is) (refl, tt), refl)
   by-outcome may (Gives Got.TimedOut) k looked is shows fresh b f e =
@@ -104,7 +109,7 @@ module _ (p : Content) (c : Conn) (t : TableId) (r : Rid) (want : Want) (s : IsS
 
   by-slot : (x : Bool) → nat_lt r.0 (slots w t) ≡ x → (r.0 < slots w t → may_look p.head w c t r want ≡ true) → (looked : Looked)
       → looked ≡ (if x then answer_by p c t r want (look p.head w c t r want) else EndOfTable) → Shows looked (shown w c t r want) → (fresh b : Bool)
-      → fresh ≡ is_fresh_on (later (if x then look_by p.head w c t r want (look p.head w c t r want) else ScanEnd t (slots w t))) c (Row t r)
+      → fresh ≡ told_fresh (if x then look_by p.head w c t r want (look p.head w c t r want) else ScanEnd t (slots w t))
       → b ≡ is_phase (phase (later (if x then look_by p.head w c t r want (look p.head w c t r want) else ScanEnd t (slots w t))) c) Phase.Waiting
       → Keeps (kept_of_look looked fresh b) (heard_of (if x then look_by p.head w c t r want (look p.head w c t r want) else ScanEnd t (slots w t)))
       × (ends (if x then look_by p.head w c t r want (look p.head w c t r want) else ScanEnd t (slots w t)) ≡ false)
@@ -114,15 +119,15 @@ module _ (p : Content) (c : Conn) (t : TableId) (r : Rid) (want : Want) (s : IsS
 
   -- whether it has a Fresh hold on the row now, told of the new parts
   fresh-now : (now : Head) (new : List Entry) (a : Act) (f : Bool) → now ≡ p.head → new ≡ p.history ++ by_agent c a ∷ []
-      → f ≡ is_fresh_on (world now new) c (Row t r) → f ≡ is_fresh_on (later a) c (Row t r)
+      → f ≡ (leaves_fresh want (is_claimed (w.last c)) && is_fresh_on (world now new) c (Row t r)) → f ≡ told_fresh a
   fresh-now now new a f same is e =
-      e ∙ ap (λ h. is_fresh_on (world h new) c (Row t r)) same
-      ∙ ap (λ x. is_fresh_on x c (Row t r)) (ap (world p.head) is ∙ world-snoc p.head p.history (by_agent c a))
+      e ∙ ap (λ h. leaves_fresh want (is_claimed (w.last c)) && is_fresh_on (world h new) c (Row t r)) same
+      ∙ ap (λ x. leaves_fresh want (is_claimed (w.last c)) && is_fresh_on x c (Row t r)) (ap (world p.head) is ∙ world-snoc p.head p.history (by_agent c a))
 
   -- the step of a look
   pub look-stepped : (now : Head) (new : List Entry) (looked : Looked) (fresh b : Bool) → (r.0 < slots w t → may_look p.head w c t r want ≡ true)
       → now ≡ p.head → new ≡ p.history ++ by_agent c (look_act p.head w c t r want) ∷ [] → looked ≡ answer_at p c t r want → Shows looked (shown w c t r want)
-      → fresh ≡ is_fresh_on (world now new) c (Row t r) → b ≡ is_phase (phase (world now new) c) Phase.Waiting
+      → fresh ≡ (leaves_fresh want (is_claimed (w.last c)) && is_fresh_on (world now new) c (Row t r)) → b ≡ is_phase (phase (world now new) c) Phase.Waiting
       → HasStepped p.head p.history new c (look_act p.head w c t r want) (Goes (kept_of_look looked fresh b))
   look-stepped now new looked fresh b may same is answer shows f e =
       let k = by-slot (nat_lt r.0 (slots w t)) refl may looked answer shows fresh b (fresh-now now new (look_act p.head w c t r want) fresh same is f)

@@ -24,6 +24,7 @@ use Rattle.iso_history.specs.declared.entry.Cause.{Cause}
 use Rattle.iso_history.specs.declared.entry.Cause.TheVariants.{History, Memory}
 use Rattle.iso_history.specs.declared.entry.Entry.{Entry}
 use Rattle.iso_history.specs.declared.entry.Got.{Got}
+use Rattle.iso_history.specs.declared.entry.Want.{Want}
 use Rattle.iso_locks.specs.declared.locking.Answer.{Answer as LockAnswer}
 use Rattle.iso_reads.specs.Answers.{is_beside}
 use Rattle.iso_reads.specs.declared.outcomes.Looked.{Looked}
@@ -51,6 +52,13 @@ kept_of_lock LockAnswer.Queued waits = keeps Told.Queued
 kept_of_lock LockAnswer.TimedOut waits = keeps Told.TimedOut
 kept_of_lock (LockAnswer.Escalates t) waits = escalating (Told.Escalates t) waits
 kept_of_lock (LockAnswer.Refused code) waits = keeps (Told.Refused code)
+
+-- a look of this want can leave a Fresh hold on its row: it locks the row, or comes next after a claim
+abbrev pub leaves_fresh : Want → Bool → Bool
+leaves_fresh Want.Dirty claimed = claimed
+leaves_fresh Want.Current claimed = claimed
+leaves_fresh Want.Settled claimed = claimed
+leaves_fresh _ claimed = true
 
 -- of a look, by whether the connection has a Fresh hold on its row now, and waits now
 abbrev pub kept_of_look : Looked → Bool → Bool → Kept

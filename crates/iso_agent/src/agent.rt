@@ -252,6 +252,9 @@ impl Agent {
         ensures settled { HasSettled self.old.task self.old.kept self.new.task self.new.kept }
         ensures conn { self.new.conn ≡ self.old.conn }
     {
+        if let Kept::Nothing = self.kept {
+            return;
+        }
         match mem::replace(&mut self.kept, Kept::Nothing) {
             Kept::Nothing => {}
             Kept::Answer { first, second } => self.tell(alloc, first, second),

@@ -65,6 +65,9 @@ impl Bells {
 
     /// Rings at the places of those who are meant; the dispatcher's is the last. No memory. It may wait. (This project's own.)
     pub fn ring_for<R: Wait>(&self, rt: &R, wakes: Wakes) {
+        if !wakes.means_any() {
+            return;
+        }
         let bells = self.places.as_slice();
         for at in 0..bells.len() {
             if wakes.means(at, bells.len() - 1) {

@@ -21,4 +21,4 @@ mod writes;
 pub use agent::{Agent, Kept, Turned};
 pub use bells::Bells;
 pub use laws::agents_rest;
-pub use wakes::{Wakes, able_in};
+pub use wakes::{Wakes, able_behind};

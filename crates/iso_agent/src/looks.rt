@@ -1,14 +1,14 @@
 //! The steps of looks and of index scans, as an agent makes them.
-ghost use Rattle.std.specs.Prelude.{◌≡◌, ◌≤◌, ◌<◌, length, false, true, IsTrue};
-ghost use Rattle.iso_history.specs.Legal.{Runs};
+ghost use Rattle.std.specs.Prelude.{◌≡◌, ◌≤◌, ◌<◌, ◌&&◌, length, false, true, IsTrue};
+ghost use Rattle.iso_history.specs.Legal.{Runs, is_fresh_on as is_fresh};
 ghost use Rattle.iso_history.specs.Looks.{may_look};
 ghost use Rattle.iso_history.specs.Nexts.{may_next};
 ghost use Rattle.iso_history.specs.Outcomes.{look_act};
 ghost use Rattle.iso_history.specs.Versions.{slots};
-ghost use Rattle.iso_state.specs.Stands.{StandsFor, world_of};
+ghost use Rattle.iso_state.specs.Stands.{StandsFor, is_claimed, world_of};
 ghost use Rattle.iso_types.specs.Head.{is_table};
 ghost use Rattle.iso_reads.specs.Nexts.{next_act};
-ghost use Rattle.iso_agent.specs.Steps.{HasStepped, keeps_pin, kept_of_look, kept_of_next, pins};
+ghost use Rattle.iso_agent.specs.Steps.{HasStepped, keeps_pin, kept_of_look, kept_of_next, leaves_fresh as may_leave, pins};
 ghost use Rattle.iso_conduct.specs.declared.moves.Move.TheVariants as Moves;
 
 use crate::agent::Kept;
@@ -16,7 +16,7 @@ use crate::stepped::{Stepped, cause_of, keep, keep_escalation, waits};
 use iso_conduct::Told;
 use iso_history::Want;
 use iso_reads::{Looked, Stepped as NextStepped, look, next_entry};
-use iso_state::{Parts, is_fresh_on};
+use iso_state::{Parts, desk_of, is_fresh_on};
 use iso_types::{Conn, IndexId, Name, Range, Rid, TableId, Value};
 use std::alloc::Global;
 
@@ -35,7 +35,32 @@ fn keep_look(looked: Looked, fresh: bool, waits: bool) -> Kept
     }
 }
 
-/// Makes the entry of a look.
+/// Whether a look of this want can leave a Fresh hold on its row: it locks the row, or comes next after a claim.
+fn leaves_fresh(parts: &Parts, conn: Conn, want: Want) -> bool
+    requires stands { StandsFor parts.now }
+    requires conn { conn.0 < length parts.now.head.conns }
+    ensures { result ≡ may_leave want (is_claimed ((world_of parts.now).last conn)) }
+{
+    match want {
+        Want::Dirty => desk_of(parts, conn).claimed,
+        Want::Current => desk_of(parts, conn).claimed,
+        Want::Settled => desk_of(parts, conn).claimed,
+        Want::Steady => true,
+        Want::Repeat => true,
+        Want::Alter => true,
+        Want::AlterKept => true,
+    }
+}
+
+/// Whether the connection has a Fresh hold on the name, which it can have where it `may`.
+fn is_fresh_where(parts: &Parts, conn: Conn, name: &Name, may: bool) -> bool
+    requires stands { StandsFor parts.now }
+    ensures { result ≡ (may && is_fresh (world_of parts.now) conn name.now) }
+{
+    may && is_fresh_on(parts, conn, name)
+}
+
+/// Makes the entry of a look. The lock list is asked for a Fresh hold only where there can be one.
 pub fn make_look(
     alloc: Global,
     parts: &mut Parts,
@@ -56,9 +81,10 @@ pub fn make_look(
     ensures stepped { HasStepped parts.old.head parts.old.history.items parts.new.history.items conn (look_act parts.old.head (world_of parts.old) conn table rid want) result }
     ensures pinned { pins parts.old.head (world_of parts.old) conn (Moves.Look table rid want) ≡ true → keeps_pin result ≡ true }
 {
+    let may = leaves_fresh(parts, conn, want);
     match look(alloc, parts, conn, table, rid, want) {
         Ok(looked) => {
-            let fresh = is_fresh_on(parts, conn, &Name::Row(table, rid));
+            let fresh = is_fresh_where(parts, conn, &Name::Row(table, rid), may);
             Stepped::Goes(keep_look(looked, fresh, waits(parts, conn)))
         }
         Err(fault) => Stepped::Stops(cause_of(fault)),

@@ -9,13 +9,15 @@ ghost use Rattle.iso_history.specs.Quiet.{is_able};
 ghost use Rattle.iso_script.specs.Sound.{IsSound};
 
 use crate::agent::{Agent, Turned};
+use crate::wakes::able_after;
 use iso_script::Script;
 use iso_state::State;
 use std::alloc::Global;
 
 impl Agent {
-    /// Makes the next entry of the connection on the state, where it is able, as `make` does; it costs what that does. What its
-    /// entry leaves to be told is kept for `settle`: the task of a look is as it was before. (This project's own.)
+    /// Makes the next entry of the connection on the state, where it is able, as `make` does, and notes in the state who can go on
+    /// behind it; it costs what `make` and `able_after` do. What its entry leaves to be told is kept for `settle`: the task of a
+    /// look is as it was before. (This project's own.)
     pub fn step(&mut self, alloc: Global, script: &Script, state: State) -> (State, Turned)
         requires head { state.head ≡ script.now.head }
         requires sound { IsSound script.now }
@@ -31,8 +33,10 @@ impl Agent {
         ensures settle { CanSettle self.new.task self.new.kept }
         ensures untold { is_ran result.1 ≡ true → IsUntold state.head (world state.head state.history) self.old.conn (ready state.head script.now.lines (world state.head state.history) self.old.conn (point state.head script.now.lines state.history self.old.conn)) self.new.task self.new.kept }
     {
+        let before = state.able();
         let mut parts = state.into_parts();
         let turned = self.make(alloc, script, &mut parts);
-        (parts.into_state(), turned)
+        let able = able_after(&parts, before, self.conn, turned);
+        (State::over(parts, able), turned)
     }
 }

@@ -9,7 +9,7 @@ ghost use Rattle.iso_script.specs.Sound.{IsSound};
 
 use crate::agent::{Agent, Kept, Turned};
 use crate::bells::Bells;
-use crate::wakes::{Wakes, able_in};
+use crate::wakes::Wakes;
 use iso_conduct::Told;
 use iso_history::Act;
 use iso_latch::{Latch, Pass};
@@ -45,7 +45,7 @@ fn shows_row(told: &Told) -> bool {
 /// Whom a turn of this connection has made able.
 fn wakes_of(turned: Turned, before: Edges, state: &State, conn: Conn) -> Wakes {
     match turned {
-        Turned::Ran => Wakes::between(before, able_in(state.parts()), conn),
+        Turned::Ran => Wakes::between(before, state.able(), conn),
         Turned::Rests => Wakes::none(),
         Turned::Ended => Wakes::none(),
     }
@@ -105,7 +105,7 @@ impl Agent {
     {
         let (turn, state) = latch.enter(rt, pass);
         grounded(&state);
-        let before = able_in(state.parts());
+        let before = state.able();
         let (state, turned) = self.step(alloc, script, state);
         let replied = has_replied(&state);
         let wakes = wakes_of(turned, before, &state, self.conn);
@@ -121,8 +121,8 @@ impl Agent {
     }
 
     /// One hold of the latch with at most one entry, and then the work that it leaves, outside the latch; after an entry that
-    /// answers a statement the gate is called. It may wait. Its cost is that of a hold, of `step` and of `settle`, and of
-    /// `able_in` twice. (This project's own.)
+    /// answers a statement the gate is called. It may wait. Its cost is that of a hold, of `step` and of `settle`. (This project's
+    /// own.)
     pub fn turn<R: Wait, G: Gate>(
         &mut self,
         rt: &R,

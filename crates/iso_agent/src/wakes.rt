@@ -2,6 +2,7 @@
 ghost use Rattle.std.specs.Prelude.{◌<◌, length};
 ghost use Rattle.iso_state.specs.Stands.{StandsFor};
 
+use crate::agent::Turned;
 use crate::ways::{Way, find_way};
 use iso_state::Parts;
 use iso_types::{Conn, Edges};
@@ -27,20 +28,52 @@ fn goes_on(parts: &Parts, conn: Conn) -> bool
     }
 }
 
-/// The connections that can go on. It looks at the phase of each, and asks the lock list for each that waits. (This project's own.)
-pub fn able_in(parts: &Parts) -> Edges
+/// The connections that can go on, given those that could before the last entry: its maker may have come to rest, and no other
+/// who could go on is looked at. It looks at the phase of each of the rest, and asks the lock list for each that waits. (This
+/// project's own.)
+pub fn able_behind(parts: &Parts, before: Edges) -> Edges
     requires stands { StandsFor parts.now }
 {
-    let mut able = Edges::none();
+    let mut able = before;
     for at in 0..32u8 {
-        if usize::from(at) < parts.head.conns.len() && goes_on(parts, Conn(at)) {
+        if usize::from(at) >= parts.head.conns.len() {
+            return able;
+        }
+        if !before.has(Conn(at)) && goes_on(parts, Conn(at)) {
             able = able.with(Conn(at));
         }
     }
     able
 }
 
+/// These without one.
+fn without(conns: Edges, one: Conn) -> Edges {
+    if one.0 < 32 {
+        conns.difference(Edges::none().with(one))
+    } else {
+        conns
+    }
+}
+
+/// Who can go on behind a turn of this connection, given who could before it: where it made no entry all is as it was, but that
+/// the connection itself can't go on. It costs nothing then, and what `able_behind` does behind an entry. (This project's own.)
+pub fn able_after(parts: &Parts, before: Edges, maker: Conn, turned: Turned) -> Edges
+    requires stands { StandsFor parts.now }
+{
+    let others = without(before, maker);
+    match turned {
+        Turned::Ran => able_behind(parts, others),
+        Turned::Rests => others,
+        Turned::Ended => others,
+    }
+}
+
 impl Wakes {
+    /// Whether anybody is rung for. (This project's own.)
+    pub fn means_any(self) -> bool {
+        self.leads || self.conns.least().is_some()
+    }
+
     /// Nobody.
     pub fn none() -> Wakes {
         Wakes {

@@ -52,7 +52,7 @@ bare-is w t r want none = go (is_dead (versions w t r)) (placed_by_want want) no
     nothing : List Request
     nothing = []
 
-    go : (b : Bool) (o : Option (Mode × Term)) → (not b && is_some o) ≡ false → (if b then nothing else option_map_or on-row o nothing) ≡ nothing
+    go : (b : Bool) (o : Option (Mode × Term)) → (is_some o && not b) ≡ false → (if b then nothing else option_map_or on-row o nothing) ≡ nothing
     go true o e = refl
     go false None e = refl
     go false (Some m) e = cc e
@@ -103,9 +103,10 @@ placed-is Repeat e = refl
 placed-is Alter e = refl
 placed-is AlterKept e = refl
 
-both-of : (b c : Bool) → (not b && c) ≡ true → (b ≡ false) × (c ≡ true)
-both-of true c e = cc e
-both-of false c e = (refl, e)
+both-of : (b c : Bool) → (c && not b) ≡ true → (b ≡ false) × (c ≡ true)
+both-of b false e = cc e
+both-of true true e = cc e
+both-of false true e = (refl, refl)
 
 module _ (head : Head) (w : World) (c : Conn) (t : TableId) (r : Rid) (want : Want) (lock : places w t r want ≡ true) where
   alive : is_dead (versions w t r) ≡ false

@@ -36,7 +36,7 @@ asked_mode _ = Ns
 
 -- a look that is granted places a lock
 abbrev pub places : World → TableId → Rid → Want → Bool
-places w t r want = not (is_dead (versions w t r)) && is_some (placed_by_want want)
+places w t r want = is_some (placed_by_want want) && not (is_dead (versions w t r))
 
 -- what is seen is not the present row: the committed one beside another unit's pending version
 abbrev pub is_beside : World → Conn → TableId → Rid → Want → Bool

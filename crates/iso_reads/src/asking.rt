@@ -113,7 +113,7 @@ pub fn places(parts: &Parts, table: TableId, rid: Rid, want: Want) -> bool
     requires rid { rid.0 < slots (world_of parts.now) table }
     ensures { result ≡ places_lock (world_of parts.now) table rid want }
 {
-    !is_dead(parts, table, rid) && is_locking(want)
+    is_locking(want) && !is_dead(parts, table, rid)
 }
 
 fn is_locking(want: Want) -> bool

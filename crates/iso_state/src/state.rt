@@ -5,14 +5,16 @@ ghost use Rattle.iso_state.specs.Tale.{tale_of};
 
 use crate::parts::Parts;
 use iso_history::{Chronicle, History};
-use iso_types::{Head, Memory};
+use iso_types::{Edges, Head, Memory};
 use std::alloc::Global;
 use std::marker::Model;
 
-/// Parts that stand for their history. Contracts see the head and the history.
+/// Parts that stand for their history, in a box, so that a state is handed on as one word; and a note of who could go on, which
+/// whoever makes an entry leaves for the next and on which no promise rests. Contracts see the head and the history.
 #[derive(Drop)]
 pub struct State {
-    parts: Parts,
+    parts: Box<Parts>,
+    able: Edges,
 }
 
 impl Model for State {
@@ -21,9 +23,9 @@ impl Model for State {
 
     ghost Value = { Tale };
 
-    ghost view = { λ s. tale_of s.parts };
+    ghost view = { λ s. tale_of s.parts.value };
 
-    ghost invariant = { λ s. StandsFor s.parts };
+    ghost invariant = { λ s. StandsFor s.parts.value };
 }
 
 impl Chronicle for State {
@@ -44,7 +46,16 @@ impl State {
         ensures head { IfOk result (λ s. s.head ≡ head.now) }
         ensures history { IfOk result (λ s. s.history ≡ []) }
     {
-        Ok(Parts::new(alloc, head)?.into_state())
+        let parts = Parts::new(alloc, head)?;
+        Ok(State::over(Box::new(alloc, parts)?, Edges::none()))
+    }
+
+    /// The state of parts that stand for their history, with a note of who can go on. (This project's own.)
+    pub fn over(parts: Box<Parts>, able: Edges) -> State
+        requires stands { StandsFor parts.value }
+        ensures tale { result ≡ tale_of parts.value }
+    {
+        State { parts, able }
     }
 
     /// The parts, for reading.
@@ -55,12 +66,18 @@ impl State {
         &self.parts
     }
 
+    /// The connections that could go on behind the last entry, as its maker noted; none where nothing was noted. (This project's
+    /// own.)
+    pub fn able(&self) -> Edges {
+        self.able
+    }
+
     /// The parts, for steps.
-    pub fn into_parts(self) -> Parts
-        ensures stands { StandsFor result }
-        ensures tale { tale_of result ≡ self }
+    pub fn into_parts(self) -> Box<Parts>
+        ensures stands { StandsFor result.value }
+        ensures tale { tale_of result.value ≡ self }
     {
-        let State { parts } = self;
+        let State { parts, able: _ } = self;
         parts
     }
 
@@ -69,17 +86,7 @@ impl State {
         ensures ground { Ground self.head result.items }
         ensures history { result.items ≡ self.history }
     {
-        let State { parts } = self;
-        parts.history
-    }
-}
-
-impl Parts {
-    /// The state of parts that stand for their history.
-    pub fn into_state(self) -> State
-        requires stands { StandsFor self }
-        ensures tale { result ≡ tale_of self }
-    {
-        State { parts: self }
+        let State { parts, able: _ } = self;
+        Box::into_inner(parts).history
     }
 }

@@ -8,7 +8,7 @@ ghost use Rattle.iso_script.specs.Sound.{IsSound};
 ghost use Rattle.iso_threads.specs.Kept.{AllKeep};
 ghost use Rattle.iso_threads.specs.Passes.{IsHostPass};
 
-use iso_agent::{Wakes, able_in};
+use iso_agent::{Wakes, able_behind};
 use iso_director::{Director, Led};
 use iso_latch::{Latch, Pass};
 use iso_script::Script;
@@ -16,7 +16,7 @@ use iso_state::State;
 use std::sync::Wait;
 
 /// One hold of the latch with at most one entry of the dispatcher, and whom that has made able. It may wait. Its cost is that of a
-/// hold and of `make`, and of `able_in` twice.
+/// hold, of `make`, and of `able_behind`.
 pub fn lead_once<R: Wait>(
     director: &mut Director,
     rt: &R,
@@ -35,9 +35,10 @@ pub fn lead_once<R: Wait>(
     ensures finished { result.1 ≡ turns.Ended → (world script.now.head (seen_of result.0.seat)).pace.finished ≡ true }
 {
     let (turn, state) = latch.enter(rt, pass);
+    let before = state.able();
     let mut parts = state.into_parts();
-    let before = able_in(&parts);
     let led = director.make(script, &mut parts);
-    let wakes = Wakes::led(before, able_in(&parts));
-    (latch.leave(turn, parts.into_state()), led, wakes)
+    let able = able_behind(&parts, before);
+    let wakes = Wakes::led(before, able);
+    (latch.leave(turn, State::over(parts, able)), led, wakes)
 }
