@@ -128,19 +128,19 @@ module _ (head : Head) (lines : List Line) (es new : List Entry) (c : Conn) (a :
 
   reaches-by : (p : Point) (kept : Kept) (ts : List Told) → Tells kept ts → Reaches (Some p) kept (Some (told_all p ts))
   reaches-by p Nothing ts t = rw t refl
-  reaches-by p (Answer first second) ts t = rw t refl
+  reaches-by p (Answer told queued) ts t = rw t refl
   reaches-by p (Rebuild past) ts t = λ row rebuilt. rw (t.1 row rebuilt, t.2) refl
   reaches-by p Stop ts t = absurd t
 
   wants-by : (p : Point) (kept : Kept) (ts : List Told) → Tells kept ts → may_want (Some p) kept ≡ true → wants p ts ≡ true
   wants-by p Nothing ts t e = absurd (cc)
-  wants-by p (Answer first second) ts t e = rw t e
+  wants-by p (Answer told queued) ts t e = rw t e
   wants-by p (Rebuild past) ts t e = rw (t.2) refl
   wants-by p Stop ts t e = absurd t
 
   settles-by : (p : Point) (kept : Kept) (ts : List Told) → Tells kept ts → HasPin kept → CanTell p ts → CanSettle (Some p) kept
   settles-by p Nothing ts t pin can = tt
-  settles-by p (Answer first second) ts t pin can = subst (λ z. CanTell p z) t can
+  settles-by p (Answer told queued) ts t pin can = subst (λ z. CanTell p z) t can
   settles-by p (Rebuild past) ts t pin can =
       (pin, λ row rebuilt. subst (λ z. CanTell p (shows z)) (sym (t.1 row rebuilt)) (subst (λ z. CanTell p z) t.2 can))
   settles-by p Stop ts t pin can = absurd t

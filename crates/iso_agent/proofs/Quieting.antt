@@ -24,9 +24,12 @@ use Rattle.iso_types.specs.declared.desk.Desk.{Desk}
 use Rattle.iso_types.specs.declared.desk.Phase.{Phase}
 use Rattle.iso_types.specs.declared.desk.Phase.TheVariants.{Rolling, Running}
 use Rattle.iso_types.specs.declared.head.Head.{Head}
+use Rattle.iso_types.specs.declared.head.Range.{Range}
 use Rattle.iso_types.specs.declared.value.Conn.{Conn}
+use Rattle.iso_types.specs.declared.value.IndexId.{IndexId}
 use Rattle.iso_types.specs.declared.value.Rid.{Rid}
 use Rattle.iso_types.specs.declared.value.TableId.{TableId}
+use Rattle.iso_types.specs.declared.value.Value.{Value}
 
 pub quiet-answers : (w : World) (c : Conn) (m : Move) (t : Told) → quiet w c m ≡ Some t → answers m t ≡ true
 quiet-answers w c Move.Claim t e = ended (phase w c) (w.doom c) e
@@ -54,6 +57,13 @@ told_by p o = elim o [ None ↦ p | Some t ↦ told_point p t ]
 -- a look is answered by no more than its entry
 pub look_quiet : (w : World) (c : Conn) (p : Point) (t : TableId) (r : Rid) (want : Want) → due p ≡ Move.Look t r want → p ≡ quieted w c (quieted w c p)
 look_quiet w c p t r want e =
+    let once : quieted w c p ≡ p = ap (told_by p) (ap (quiet w c) e) in
+    sym (ap (quieted w c) once ∙ once)
+
+-- nor is a step of an index scan
+pub next_quiet : (w : World) (c : Conn) (p : Point) (i : IndexId) (range : Range) (after : Option (Value × Rid)) (guarded : Bool)
+    → due p ≡ Move.Next i range after guarded → p ≡ quieted w c (quieted w c p)
+next_quiet w c p i range after guarded e =
     let once : quieted w c p ≡ p = ap (told_by p) (ap (quiet w c) e) in
     sym (ap (quieted w c) once ∙ once)
 

@@ -25,22 +25,22 @@ fits-told : (head : Head) (lines : List Line) (es : List Entry) (c : Conn) (task
     → Fits head lines es c after last
 fits-told head lines es c task after ts Nothing is runs told = record { reaches = told ∙ is; runs = λ e. absurd (cc) }
 fits-told head lines es c task after ts Stop is runs told = record { reaches = tt; runs = λ e. runs told }
-fits-told head lines es c task after ts (Answer first second) is runs told = absurd told
+fits-told head lines es c task after ts (Answer t queued) is runs told = absurd told
 fits-told head lines es c task after ts (Rebuild past) is runs told = absurd told
 
 fits-rebuilt : (head : Head) (lines : List Line) (es : List Entry) (c : Conn) (task after : Option Point) (past : Past) (last : Kept)
     → Fits head lines es c task (Rebuild past) → HasRebuilt task past after last → Fits head lines es c after last
 fits-rebuilt head lines es c task after past Nothing f told = record { reaches = told.2 ∙ f.reaches told.0 told.1; runs = λ e. absurd (cc) }
 fits-rebuilt head lines es c task after past Stop f told = record { reaches = tt; runs = λ e. f.runs refl }
-fits-rebuilt head lines es c task after past (Answer first second) f told = absurd told
+fits-rebuilt head lines es c task after past (Answer t queued) f told = absurd told
 fits-rebuilt head lines es c task after past (Rebuild other) f told = absurd told
 
 fits-settled : (head : Head) (lines : List Line) (es : List Entry) (c : Conn) (task after : Option Point) (kept last : Kept)
     → Fits head lines es c task kept → HasSettled task kept after last → Fits head lines es c after last
 fits-settled head lines es c task after Nothing last f s =
     subst (λ (z : Option Point × Kept). Fits head lines es c z.0 z.1) (λ i. (sym s.0 i, sym s.1 i)) f
-fits-settled head lines es c task after (Answer first second) last f s =
-    fits-told head lines es c task after (told_list first second) last f.reaches f.runs s
+fits-settled head lines es c task after (Answer t queued) last f s =
+    fits-told head lines es c task after (told_list t queued) last f.reaches f.runs s
 fits-settled head lines es c task after (Rebuild past) last f s = fits-rebuilt head lines es c task after past last f s
 fits-settled head lines es c task after Stop last f s =
     subst (λ k. Fits head lines es c after k) (sym s) (record { reaches = tt; runs = λ e. f.runs refl })

@@ -73,8 +73,8 @@ module _ (head : Head) (w : World) (c : Conn) (runs : phase w c ≡ Running) whe
 
   escalated-kept : (t : TableId) (m : Mode) (o : Outcome) (b : Bool) → b ≡ waits_after (escalated_by t m o)
       → Tells (kept_of_lock (answer_of (escalated_by t m o)) b) (heard_after (escalated_by t m o))
-  escalated-kept t m (Gives Got.Granted) b e = subst (λ x. Told.Escalates t ∷ [] ≡ told_list (Told.Escalates t) (if x then Some Told.Queued else None)) (sym (e ∙ granted-runs t m)) refl
-  escalated-kept t m (Gives (Got.Queued k)) b e = subst (λ x. Told.Escalates t ∷ Told.Queued ∷ [] ≡ told_list (Told.Escalates t) (if x then Some Told.Queued else None)) (sym (e ∙ queued-waits t m k)) refl
+  escalated-kept t m (Gives Got.Granted) b e = subst (λ x. Told.Escalates t ∷ [] ≡ told_list (Told.Escalates t) x) (sym (e ∙ granted-runs t m)) refl
+  escalated-kept t m (Gives (Got.Queued k)) b e = subst (λ x. Told.Escalates t ∷ Told.Queued ∷ [] ≡ told_list (Told.Escalates t) x) (sym (e ∙ queued-waits t m k)) refl
   escalated-kept t m (Gives Got.TimedOut) b e = refl
   escalated-kept t m Limit b e = refl
 

@@ -22,10 +22,10 @@ use Rattle.iso_types.specs.declared.value.Value.{Value}
 
 -- ---- what is kept
 
--- a first answer, and a second where there is one
-abbrev pub told_list : Told → Option Told → List Told
-told_list first None = first ∷ []
-told_list first (Some second) = first ∷ second ∷ []
+-- an answer, and then that the step queues where it does
+abbrev pub told_list : Told → Bool → List Told
+told_list told false = told ∷ []
+told_list told true = told ∷ Told.Queued ∷ []
 
 -- a look without a Fresh hold showed this
 abbrev pub shows : Option (List Value) → List Told
@@ -34,7 +34,7 @@ shows row = Told.Shown row false ∷ []
 -- what is kept tells this: answers, or what a look's pin is rebuilt to; a stop tells nothing
 abbrev pub Tells : Kept → List Told → Type 0
 Tells Nothing ts = ts ≡ []
-Tells (Answer first second) ts = ts ≡ told_list first second
+Tells (Answer told queued) ts = ts ≡ told_list told queued
 Tells (Rebuild past) ts =
     (shown : Option (List Value)) × ((row : Option (List Value)) → IsRebuilt past row → row ≡ shown) × (ts ≡ shows shown)
 Tells Stop ts = ⊥
@@ -58,7 +58,7 @@ wants_in (Some p) ts = wants p ts
 -- memory may be wanting for what is kept, or was
 abbrev pub may_want : Option Point → Kept → Bool
 may_want task Nothing = false
-may_want task (Answer first second) = wants_in task (told_list first second)
+may_want task (Answer told queued) = wants_in task (told_list told queued)
 may_want task (Rebuild past) = true
 may_want task Stop = true
 
@@ -71,7 +71,7 @@ told_to task ts = option_map (λ p. told_all p ts) task
 -- the task, once told what is kept, is at this point; where a stop is kept nothing is said of it
 abbrev pub Reaches : Option Point → Kept → Option Point → Type 0
 Reaches task Nothing o = task ≡ o
-Reaches task (Answer first second) o = told_to task (told_list first second) ≡ o
+Reaches task (Answer told queued) o = told_to task (told_list told queued) ≡ o
 Reaches task (Rebuild past) o = (row : Option (List Value)) → IsRebuilt past row → told_to task (shows row) ≡ o
 Reaches task Stop o = Unit {0}
 
@@ -102,7 +102,7 @@ CanTellTo (Some p) ts = CanTell p ts
 -- what is kept can be told: there is a task, and what is pinned can be rebuilt
 abbrev pub CanSettle : Option Point → Kept → Type 0
 CanSettle task Nothing = Unit {0}
-CanSettle task (Answer first second) = CanTellTo task (told_list first second)
+CanSettle task (Answer told queued) = CanTellTo task (told_list told queued)
 CanSettle task (Rebuild past) = HasChain past × ((row : Option (List Value)) → IsRebuilt past row → CanTellTo task (shows row))
 CanSettle task Stop = Unit {0}
 
@@ -121,6 +121,6 @@ HasRebuilt task past after last = ⊥
 -- the task was told what was kept; or memory was wanting for it, and a stop is kept
 abbrev pub HasSettled : Option Point → Kept → Option Point → Kept → Type 0
 HasSettled task Nothing after last = (after ≡ task) × (last ≡ Nothing)
-HasSettled task (Answer first second) after last = HasTold task (told_list first second) after last
+HasSettled task (Answer told queued) after last = HasTold task (told_list told queued) after last
 HasSettled task (Rebuild past) after last = HasRebuilt task past after last
 HasSettled task Stop after last = last ≡ Stop

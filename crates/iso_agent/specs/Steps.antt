@@ -39,11 +39,11 @@ use Rattle.iso_writes.specs.declared.coming.Written.{Written}
 
 -- one answer
 abbrev pub keeps : Told → Kept
-keeps t = Answer t None
+keeps t = Answer t false
 
--- an escalation, which may queue
+-- an escalation, which queues where the connection waits now
 abbrev pub escalating : Told → Bool → Kept
-escalating t waits = Answer t (if waits then Some Told.Queued else None)
+escalating t waits = Answer t waits
 
 -- of a lock that was asked for, by whether the connection waits now
 abbrev pub kept_of_lock : LockAnswer → Bool → Kept

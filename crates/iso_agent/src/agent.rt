@@ -33,12 +33,12 @@ use iso_types::Conn;
 use std::alloc::Global;
 use std::mem;
 
-/// What the last step has left for the work that needs no state: nothing; the answers of its entry, where a second is `Queued`
+/// What the last step has left for the work that needs no state: nothing; the answer of its entry, and that the lock is `queued` for
 /// after an escalation that queues; a pinned slot, of which the row of a look is rebuilt; or a stop, since memory was wanting.
 #[derive(Drop)]
 pub enum Kept {
     Nothing,
-    Answer { first: Told, second: Option<Told> },
+    Answer { told: Told, queued: bool },
     Rebuild(Past),
     Stop,
 }
@@ -227,16 +227,16 @@ impl Agent {
         }
     }
 
-    /// Tells the task one or two answers; where memory is wanting a stop is kept.
-    fn tell(&mut self, alloc: Global, first: Told, second: Option<Told>)
-        requires can { CanTellTo self.old.task (told_list first second) }
+    /// Tells the task an answer, and then that it queues where it does; where memory is wanting a stop is kept.
+    fn tell(&mut self, alloc: Global, told: Told, queued: bool)
+        requires can { CanTellTo self.old.task (told_list told queued) }
         requires nothing { self.old.kept ≡ Nothing }
-        ensures told { HasTold self.old.task (told_list first second) self.new.task self.new.kept }
+        ensures told { HasTold self.old.task (told_list told queued) self.new.task self.new.kept }
         ensures kept { is_settled self.new.kept ≡ true }
         ensures conn { self.new.conn ≡ self.old.conn }
     {
         if let Some(task) = &mut self.task {
-            match tell(alloc, task, first, second) {
+            match tell(alloc, task, told, queued) {
                 Ok(()) => {}
                 Err(_) => self.kept = Kept::Stop,
             }
@@ -257,10 +257,10 @@ impl Agent {
         }
         match mem::replace(&mut self.kept, Kept::Nothing) {
             Kept::Nothing => {}
-            Kept::Answer { first, second } => self.tell(alloc, first, second),
+            Kept::Answer { told, queued } => self.tell(alloc, told, queued),
             Kept::Rebuild(past) => {
                 let row = rebuild(past);
-                self.tell(alloc, Told::Shown(row, false), None);
+                self.tell(alloc, Told::Shown(row, false), false);
             }
             Kept::Stop => self.kept = Kept::Stop,
         }

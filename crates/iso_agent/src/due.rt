@@ -62,6 +62,34 @@ fn step_any(alloc: Global, parts: &mut Parts, conn: Conn, task: &mut Task) -> St
     }
 }
 
+/// Makes the entry of the step that is due, which is no look. A step of an index scan is asked for first: its range is not copied.
+fn step_on(alloc: Global, parts: &mut Parts, conn: Conn, task: &mut Task) -> Stepped
+    requires stands { StandsFor parts.old }
+    requires open { (world_of parts.old).pace.finished ≡ false }
+    requires conn { conn.0 < length parts.old.head.conns }
+    requires may { MayGoOn parts.old.head (world_of parts.old) conn task.old }
+    requires loud { quiet (world_of parts.old) conn (due task.old) ≡ None }
+    requires scans { ScansWithin parts.old.head (world_of parts.old) task.old }
+    ensures stands { StandsFor parts.new }
+    ensures head { parts.new.head ≡ parts.old.head }
+    ensures stepped { HasStepped parts.old.head parts.old.history.items parts.new.history.items conn (act_due parts.old.head (world_of parts.old) conn task.old) result }
+    ensures same { goes_on result ≡ true → task.new ≡ task.old }
+    ensures pinned { pins parts.old.head (world_of parts.old) conn (due task.old) ≡ true → keeps_pin result ≡ true }
+{
+    match task.due_next() {
+        Some((next, range)) => make_next(
+            alloc,
+            parts,
+            conn,
+            next.index,
+            range,
+            next.after,
+            next.guarded,
+        ),
+        None => step_any(alloc, parts, conn, task),
+    }
+}
+
 /// Makes the entry of the step that is due, which may be made and is not answered without an entry. The task is told nothing;
 /// only a reply takes its rows. A look is asked for first, since most entries of a scan are looks.
 pub fn step_due(alloc: Global, parts: &mut Parts, conn: Conn, task: &mut Task) -> Stepped
@@ -79,6 +107,6 @@ pub fn step_due(alloc: Global, parts: &mut Parts, conn: Conn, task: &mut Task) -
 {
     match task.due_look() {
         Some(look) => make_look(alloc, parts, conn, look.table, look.rid, look.want),
-        None => step_any(alloc, parts, conn, task),
+        None => step_on(alloc, parts, conn, task),
     }
 }

@@ -130,6 +130,21 @@ fn quieten_steps(alloc: Global, parts: &Parts, conn: Conn, task: &mut Task)
     }
 }
 
+/// The same; a step of an index scan is never answered so.
+#[tactic(auto, using(crate::proofs::Quieting::next_quiet))]
+fn quieten_past_next(alloc: Global, parts: &Parts, conn: Conn, task: &mut Task)
+    requires stands { StandsFor parts.now }
+    requires conn { conn.0 < length parts.now.head.conns }
+    requires runs { RunsForBack (world_of parts.now) conn (due task.old) }
+    requires later { RunsForBack (world_of parts.now) conn (due (quieted (world_of parts.now) conn task.old)) }
+    ensures { task.new ≡ quieted (world_of parts.now) conn (quieted (world_of parts.now) conn task.old) }
+{
+    match task.due_next() {
+        Some(_) => {}
+        None => quieten_steps(alloc, parts, conn, task),
+    }
+}
+
 /// Tells the task what its step answers that records nothing, if it does; and then the same of the step that is due then. A look
 /// is never answered so.
 #[tactic(auto, using(crate::proofs::Quieting::look_quiet))]
@@ -142,6 +157,6 @@ pub fn quieten(alloc: Global, parts: &Parts, conn: Conn, task: &mut Task)
 {
     match task.due_look() {
         Some(_) => {}
-        None => quieten_steps(alloc, parts, conn, task),
+        None => quieten_past_next(alloc, parts, conn, task),
     }
 }

@@ -25,8 +25,8 @@ pub fn keep(told: Told) -> Kept
     ensures { result ≡ keeps told }
 {
     Kept::Answer {
-        first: told,
-        second: None,
+        told,
+        queued: false,
     }
 }
 
@@ -34,10 +34,9 @@ pub fn keep(told: Told) -> Kept
 pub fn keep_escalation(told: Told, waits: bool) -> Kept
     ensures { result ≡ escalating told waits }
 {
-    let second = if waits { Some(Told::Queued) } else { None };
     Kept::Answer {
-        first: told,
-        second,
+        told,
+        queued: waits,
     }
 }
 

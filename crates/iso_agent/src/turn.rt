@@ -69,8 +69,8 @@ impl Agent {
     {
         match &self.kept {
             Kept::Nothing => {}
-            Kept::Answer { first, .. } => {
-                if shows_row(first) {
+            Kept::Answer { told, .. } => {
+                if shows_row(told) {
                     gate.at(rt, self.conn, Place::BeforeCondition);
                 }
             }

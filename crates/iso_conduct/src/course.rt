@@ -10,7 +10,7 @@ ghost use Rattle.iso_conduct.specs.declared.course.Stage.{Stage};
 ghost use Rattle.iso_conduct.specs.declared.course.Front.{Front};
 ghost use Rattle.iso_conduct.specs.declared.moves.Move.{Move};
 
-use crate::moves::{DueLook, Move};
+use crate::moves::{DueLook, DueNext, Move};
 use iso_history::Want;
 use iso_modes::Mode;
 use iso_sql::Statement;
@@ -266,6 +266,45 @@ impl Course {
     {
         match self.front {
             Front::Nothing => self.stage_look(),
+            _ => None,
+        }
+    }
+
+    /// The step of an index scan, with its range, where the scan stands behind an entry or before the first.
+    fn scan_next(&self) -> Option<(DueNext, &Range)>
+        ensures { IfSome result (λ next. point.due_by (point_of self.now).kept (part_of self.now.walk self.now.place ∷ []) ≡ Move.Next next.0.index next.1.now next.0.after next.0.guarded) }
+    {
+        let walk = &self.walk;
+        match &self.place {
+            Place::Slot(_) => None,
+            Place::Entry(_, _) => None,
+            Place::Behind(after) => Some((
+                DueNext {
+                    index: walk.index,
+                    after: *after,
+                    guarded: walk.guarded,
+                },
+                &walk.range,
+            )),
+        }
+    }
+
+    /// The step of an index scan, with its range, if the step of the stage is one.
+    fn stage_next(&self) -> Option<(DueNext, &Range)>
+        ensures { IfSome result (λ next. point.due_by (point_of self.now).kept (staged self.now) ≡ Move.Next next.0.index next.1.now next.0.after next.0.guarded) }
+    {
+        match &self.stage {
+            Stage::Scan => self.scan_next(),
+            _ => None,
+        }
+    }
+
+    /// The step of an index scan that is due, with its range, if the due step is one.
+    pub fn due_next(&self) -> Option<(DueNext, &Range)>
+        ensures { IfSome result (λ next. due (point_of self.now) ≡ Move.Next next.0.index next.1.now next.0.after next.0.guarded) }
+    {
+        match self.front {
+            Front::Nothing => self.stage_next(),
             _ => None,
         }
     }

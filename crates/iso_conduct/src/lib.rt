@@ -15,5 +15,5 @@ pub use laws::{
     finished_is_whole, finished_takes_all_lines, legal_histories_are_guarded, one_entry_is_next,
     others_leave_the_point,
 };
-pub use moves::{DueLook, Move, Told};
+pub use moves::{DueLook, DueNext, Move, Told};
 pub use task::Task;

@@ -76,6 +76,14 @@ pub struct DueLook {
     pub want: Want,
 }
 
+/// A step of an index scan that is due, with its arguments but for the range.
+#[derive(Clone, Copy)]
+pub struct DueNext {
+    pub index: IndexId,
+    pub after: Option<(Value, Rid)>,
+    pub guarded: bool,
+}
+
 /// What that step answered, with a look's row already rebuilt. `Granted` and `Ended` answer a Claim, `Undone` an
 /// Undo, `Floor` a Back; the truth value of `Shown` says whether the connection has a Fresh hold on the look's row.
 #[derive(Drop)]

@@ -9,10 +9,10 @@ ghost use Rattle.iso_conduct.specs.declared.moves.Move.{Move};
 ghost use Rattle.iso_sql.specs.Sound.{is_sound_statement};
 
 use crate::course::Course;
-use crate::moves::{DueLook, Move, Told};
+use crate::moves::{DueLook, DueNext, Move, Told};
 use crate::start::first_course;
 use iso_sql::Statement;
-use iso_types::{Conn, Desk, Head, Memory, Row, Rows};
+use iso_types::{Conn, Desk, Head, Memory, Range, Row, Rows};
 use std::alloc::Global;
 use std::marker::Model;
 
@@ -70,6 +70,14 @@ impl Task {
         ensures { IfSome result (λ look. due self.now ≡ Move.Look look.table look.rid look.want) }
     {
         self.course.due_look()
+    }
+
+    /// The next step, with its range, where it is one of an index scan; so the range is not copied. It takes no memory and constant
+    /// time. (This project's own.)
+    pub fn due_next(&self) -> Option<(DueNext, &Range)>
+        ensures { IfSome result (λ next. due self.now ≡ Move.Next next.0.index next.1.now next.0.after next.0.guarded) }
+    {
+        self.course.due_next()
     }
 
     /// The row to write: the next step has to be an Insert or an Update. It takes no memory.

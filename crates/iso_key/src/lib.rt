@@ -7,4 +7,5 @@ mod page;
 #[cfg(test)]
 mod tests;
 
+pub use cut::compare_keys;
 pub use index::KeyIndex;

@@ -226,6 +226,21 @@ fn work_loose(lines: &mut Lines, desk: &mut Desk, conn: Conn, tables: &[TableId]
     keep_at_hand(&mut desk.loose, lines, conn);
 }
 
+/// Does a task that concerns names at hand; where there are none, nothing. Its cost is their number.
+fn work_at_hand(lines: &mut Lines, desk: &mut Desk, conn: Conn, tables: &[TableId], task: &Task)
+    requires seated { IsSeated lines.old conn desk.old }
+    requires weighed { IsWeighed tables.now lines.old conn desk.old.names.entries desk.old.weights.items }
+    requires concerned { (q : Line) → concerns task.now conn q ≡ true → is_at_hand conn q ≡ true }
+    ensures lines { (n : Other) → line_of lines.new n ≡ worked tables.now task.now conn n (line_of lines.old n) }
+    ensures seated { IsSeated lines.new conn desk.new }
+    ensures weighed { IsWeighed tables.now lines.new conn desk.new.names.entries desk.new.weights.items }
+    ensures fewer { length desk.new.names.entries ≤ length desk.old.names.entries }
+{
+    if desk.loose.len() > 0 {
+        work_loose(lines, desk, conn, tables, task);
+    }
+}
+
 /// Does a task that concerns names which the connection awaits. Its cost is their number.
 fn work_awaited(lines: &mut Lines, desk: &mut Desk, conn: Conn, tables: &[TableId], task: &Task)
     requires seated { IsSeated lines.old conn desk.old }
@@ -263,7 +278,7 @@ pub fn work(lines: &mut Lines, desk: &mut Desk, conn: Conn, tables: &[TableId], 
     match task {
         Task::Release => work_names(lines, desk, conn, tables, task),
         Task::Collapse(_) => work_names(lines, desk, conn, tables, task),
-        Task::Settle(_, _) => work_loose(lines, desk, conn, tables, task),
+        Task::Settle(_, _) => work_at_hand(lines, desk, conn, tables, task),
         Task::Cancel => work_awaited(lines, desk, conn, tables, task),
         Task::Claim => work_awaited(lines, desk, conn, tables, task),
     }

@@ -5,6 +5,7 @@ ghost use Rattle.iso_types.specs.Value.{value_eq, value_lt};
 ghost use Rattle.iso_state.specs.Stands.{StandsFor, world_of};
 
 use iso_history::Stand;
+use iso_key::compare_keys;
 use iso_state::Parts;
 use iso_types::{Edge, IndexId, Name, Range, Rid, Value};
 
@@ -29,7 +30,7 @@ pub fn find_entry(
 fn is_less(a: &Value, b: &Value) -> bool
     ensures { result ≡ value_lt a.now b.now }
 {
-    a.compare(b).is_lt()
+    compare_keys(a, b).is_lt()
 }
 
 #[tactic(auto, unfolding(iso_types::specs::Value::value_eq))]

@@ -8,6 +8,7 @@ mod landing;
 mod laws;
 mod looking;
 mod outcomes;
+mod plain;
 mod slots;
 mod stepping;
 

@@ -7,7 +7,7 @@ ghost use Rattle.iso_history.specs.Outcomes.{at_limit, look_act, look_by};
 ghost use Rattle.iso_history.specs.Requests.{is_pressed};
 ghost use Rattle.iso_history.specs.Requests.Outcome.{Gives, Limit};
 ghost use Rattle.iso_history.specs.Stops.{is_full};
-ghost use Rattle.iso_history.specs.Versions.{is_pending, present, slots, versions};
+ghost use Rattle.iso_history.specs.Versions.{is_pending, slots, versions};
 ghost use Rattle.iso_history.specs.declared.entry.Act.TheVariants as acts;
 ghost use Rattle.iso_history.specs.declared.entry.Got.{Got as Gained};
 ghost use Rattle.iso_locks.specs.Answers.{answer_of};
@@ -17,7 +17,8 @@ ghost use Rattle.iso_reads.specs.Answers.{Shows, answer_at, answer_by, comes_at_
 
 use crate::asking::{judge_look, places};
 use crate::outcomes::{Looked, end, pass, take_row, time_out, wait};
-use crate::slots::{is_changed_beside, is_slot, pin_at, present_row};
+use crate::plain::{is_plain, look_plain, show};
+use crate::slots::{is_changed_beside, is_slot, pin_at};
 use iso_history::Want;
 use iso_locks::{Answer, escalate};
 use iso_state::{Judged, Parts};
@@ -42,19 +43,6 @@ fn is_beside(parts: &Parts, conn: Conn, table: TableId, rid: Rid, want: Want) ->
         Want::Repeat => false,
         Want::Alter => false,
         Want::AlterKept => false,
-    }
-}
-
-/// A copy of the present row of a slot.
-fn show(alloc: Global, parts: &Parts, table: TableId, rid: Rid) -> Result<Looked, StepFault>
-    requires stands { StandsFor parts.now }
-    requires rid { rid.0 < slots (world_of parts.now) table }
-    ensures answer { IfOk result (λ a. a ≡ Looked.Shown (present (versions (world_of parts.now) table rid))) }
-    ensures fault { result ≢ Err StepFault.HistoryFull }
-{
-    match present_row(alloc, parts, table, rid) {
-        Ok(row) => Ok(Looked::Shown(row)),
-        Err(_) => Err(StepFault::Memory),
     }
 }
 
@@ -220,6 +208,35 @@ fn look_at(
     }
 }
 
+/// Looks at a slot. Most looks need no lock: that is asked first.
+fn look_slot(
+    alloc: Global,
+    parts: &mut Parts,
+    conn: Conn,
+    table: TableId,
+    rid: Rid,
+    want: Want,
+) -> Result<Looked, StepFault>
+    requires stands { StandsFor parts.old }
+    requires open { (world_of parts.old).pace.finished ≡ false }
+    requires conn { conn.0 < length parts.old.head.conns }
+    requires runs { Runs (world_of parts.old) conn }
+    requires rid { rid.0 < slots (world_of parts.old) table }
+    requires may { IsTrue (may_look parts.old.head (world_of parts.old) conn table rid want) }
+    ensures stands { StandsFor parts.new }
+    ensures head { parts.new.head ≡ parts.old.head }
+    ensures answer { IfOk result (λ a. a ≡ answer_by (content_of parts.old) conn table rid want (looks parts.old.head (world_of parts.old) conn table rid want)) }
+    ensures full { result ≡ Err StepFault.HistoryFull → is_full parts.old.head (world_of parts.old) (by_agent conn (look_by parts.old.head (world_of parts.old) conn table rid want (looks parts.old.head (world_of parts.old) conn table rid want))) ≡ true }
+    ensures ok { OnOk result (parts.new.history.items ≡ parts.old.history.items ++ by_agent conn (look_by parts.old.head (world_of parts.old) conn table rid want (looks parts.old.head (world_of parts.old) conn table rid want)) ∷ []) }
+    ensures err { OnErr result (content_of parts.new ≡ content_of parts.old) }
+{
+    if is_plain(parts, conn, table, rid, want) {
+        look_plain(alloc, parts, conn, table, rid, want)
+    } else {
+        look_at(alloc, parts, conn, table, rid, want)
+    }
+}
+
 /// Looks at a slot as the want asks, or finds the end of the table, where the rid is the number of its slots. `Shown`: this
 /// row is seen, or none; `Pinned`: what `rebuild` makes of it is seen, the row last committed beside a pending one of another
 /// unit; `Queued`: the connection waits for a lock; `TimedOut`: it may not wait, and has to roll back. Where its need is at
@@ -251,7 +268,7 @@ pub fn look(
     ensures err { OnErr result (content_of parts.new ≡ content_of parts.old) }
 {
     if is_slot(parts, table, rid) {
-        look_at(alloc, parts, conn, table, rid, want)
+        look_slot(alloc, parts, conn, table, rid, want)
     } else {
         end(parts, conn, table, rid)?;
         Ok(Looked::EndOfTable)

@@ -13,18 +13,12 @@ use iso_types::{Conn, Head, Items, Memory};
 use std::alloc::Global;
 
 // Appends a line of a snapshot.
-fn put_lock(
-    alloc: Global,
-    out: &mut Vec<u8>,
-    head: &Head,
-    line: u32,
-    lock: &LockLine,
-) -> Result<(), Memory>
+fn put_lock(out: &mut Vec<u8>, head: &Head, line: u32, lock: &LockLine) -> Result<(), Memory>
     ensures { OnOk result (out.new.items ≡ out.old.items ++ lock_line head.now line lock.now) }
 {
-    put_number(alloc, out, u64::from(line))?;
+    put_number(out, u64::from(line))?;
     put(out, b" LOCK ")?;
-    put_name(alloc, out, head, &lock.name)?;
+    put_name(out, head, &lock.name)?;
     put(out, b" ")?;
     put_conn(out, head, lock.conn)?;
     put(out, b" ")?;
@@ -35,41 +29,35 @@ fn put_lock(
 }
 
 // Appends a line for each lock of a snapshot.
-fn put_locks(
-    alloc: Global,
-    out: &mut Vec<u8>,
-    head: &Head,
-    line: u32,
-    locks: &[LockLine],
-) -> Result<(), Memory>
+fn put_locks(out: &mut Vec<u8>, head: &Head, line: u32, locks: &[LockLine]) -> Result<(), Memory>
     ensures { OnOk result (out.new.items ≡ out.old.items ++ lock_lines head.now line locks.now) }
 {
     for lock in locks {
-        put_lock(alloc, out, head, line, lock)?;
+        put_lock(out, head, line, lock)?;
     }
     Ok(())
 }
 
 // Appends what the dispatcher's entry prints.
-fn put_dispatcher(alloc: Global, out: &mut Vec<u8>, head: &Head, act: &Act) -> Result<(), Memory>
+fn put_dispatcher(out: &mut Vec<u8>, head: &Head, act: &Act) -> Result<(), Memory>
     ensures { OnOk result (out.new.items ≡ out.old.items ++ dispatcher_text head.now act.now) }
 {
     match act {
         Act::Busy { line, conn } => {
-            put_front(alloc, out, head, *line, *conn)?;
+            put_front(out, head, *line, *conn)?;
             put(out, b"BUSY\n")
         }
         Act::Expire { line, conn, ended } => {
-            put_number(alloc, out, u64::from(*line))?;
+            put_number(out, u64::from(*line))?;
             put(out, b" EXPIRE ")?;
             put_conn(out, head, *conn)?;
             put(out, if *ended { b"\n" } else { b" NO EFFECT\n" })
         }
         Act::Snapshot { line, locks } => {
-            put_locks(alloc, out, head, *line, locks.as_slice())?;
-            put_number(alloc, out, u64::from(*line))?;
+            put_locks(out, head, *line, locks.as_slice())?;
+            put_number(out, u64::from(*line))?;
             put(out, b" LOCKS ")?;
-            put_number(alloc, out, locks.len() as u64)?;
+            put_number(out, locks.len() as u64)?;
             put(out, b"\n")
         }
         Act::Stopped { cause } => {
@@ -84,7 +72,6 @@ fn put_dispatcher(alloc: Global, out: &mut Vec<u8>, head: &Head, act: &Act) -> R
 
 // Appends what the entry prints.
 fn put_entry(
-    alloc: Global,
     out: &mut Vec<u8>,
     head: &Head,
     opens: &[OpenLine],
@@ -93,8 +80,8 @@ fn put_entry(
     ensures { OnOk result (out.new.items ≡ out.old.items ++ entry_text head.now opens.now entry.now.who entry.now.act) }
 {
     match entry.who {
-        Who::Dispatcher => put_dispatcher(alloc, out, head, &entry.act),
-        Who::Agent(conn) => put_agent(alloc, out, head, opened::of(opens, conn), conn, &entry.act),
+        Who::Dispatcher => put_dispatcher(out, head, &entry.act),
+        Who::Agent(conn) => put_agent(out, head, opened::of(opens, conn), conn, &entry.act),
     }
 }
 
@@ -106,7 +93,7 @@ fn print(alloc: Global, script: &Script, entries: &[Entry]) -> Result<Items<u8>,
     let mut passed = Passed::none();
     let mut out = Vec::new(alloc);
     for entry in entries {
-        put_entry(alloc, &mut out, &script.head, &opens, entry)?;
+        put_entry(&mut out, &script.head, &opens, entry)?;
         opened::note(&mut opens, script, &mut passed, &entry.act);
     }
     Ok(Items::from_vec(out))

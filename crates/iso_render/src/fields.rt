@@ -8,7 +8,6 @@ use iso_history::{Got, Stand, Want, Why};
 use iso_modes::Term;
 use iso_queue::LockLine;
 use iso_types::{Edge, Head, Isolation, Memory, Rid, Row, Value};
-use std::alloc::Global;
 
 // Yes or no.
 pub fn truth_of(truth: bool) -> &'static [u8]
@@ -81,94 +80,85 @@ pub fn put_got(out: &mut Vec<u8>, got: Got) -> Result<(), Memory>
 }
 
 // Appends an index entry.
-fn put_place(alloc: Global, out: &mut Vec<u8>, value: &Value, rid: Rid) -> Result<(), Memory>
+fn put_place(out: &mut Vec<u8>, value: &Value, rid: Rid) -> Result<(), Memory>
     ensures { OnOk result (out.new.items ≡ out.old.items ++ place_text (value.now, rid)) }
 {
-    put_value(alloc, out, value)?;
+    put_value(out, value)?;
     put(out, b" ")?;
-    put_number(alloc, out, u64::from(rid.0))
+    put_number(out, u64::from(rid.0))
 }
 
 // Appends where a step of an index scan stands.
-pub fn put_stand(alloc: Global, out: &mut Vec<u8>, head: &Head, stand: &Stand) -> Result<(), Memory>
+pub fn put_stand(out: &mut Vec<u8>, head: &Head, stand: &Stand) -> Result<(), Memory>
     ensures { OnOk result (out.new.items ≡ out.old.items ++ stand_text head.now stand.now) }
 {
     match stand {
         Stand::At(value, rid) => {
             put(out, b"AT ")?;
-            put_place(alloc, out, value, *rid)
+            put_place(out, value, *rid)
         }
         Stand::Past => put(out, b"PAST"),
         Stand::Queued(name) => {
             put(out, b"QUEUED ")?;
-            put_name(alloc, out, head, name)
+            put_name(out, head, name)
         }
         Stand::TimedOut(name) => {
             put(out, b"TIMEDOUT ")?;
-            put_name(alloc, out, head, name)
+            put_name(out, head, name)
         }
     }
 }
 
 // Appends the low bound of a range.
-pub fn put_low(alloc: Global, out: &mut Vec<u8>, bound: &Option<Edge>) -> Result<(), Memory>
+pub fn put_low(out: &mut Vec<u8>, bound: &Option<Edge>) -> Result<(), Memory>
     ensures { OnOk result (out.new.items ≡ out.old.items ++ low_text bound.now) }
 {
     match bound {
         None => put(out, b"-"),
         Some(edge) => {
             put(out, if edge.inclusive { b"GE " } else { b"GT " })?;
-            put_value(alloc, out, &edge.value)
+            put_value(out, &edge.value)
         }
     }
 }
 
 // Appends the high bound.
-pub fn put_high(alloc: Global, out: &mut Vec<u8>, bound: &Option<Edge>) -> Result<(), Memory>
+pub fn put_high(out: &mut Vec<u8>, bound: &Option<Edge>) -> Result<(), Memory>
     ensures { OnOk result (out.new.items ≡ out.old.items ++ high_text bound.now) }
 {
     match bound {
         None => put(out, b"-"),
         Some(edge) => {
             put(out, if edge.inclusive { b"LE " } else { b"LT " })?;
-            put_value(alloc, out, &edge.value)
+            put_value(out, &edge.value)
         }
     }
 }
 
 // Appends the entry from behind which an index scan goes on.
-pub fn put_after(
-    alloc: Global,
-    out: &mut Vec<u8>,
-    after: &Option<(Value, Rid)>,
-) -> Result<(), Memory>
+pub fn put_after(out: &mut Vec<u8>, after: &Option<(Value, Rid)>) -> Result<(), Memory>
     ensures { OnOk result (out.new.items ≡ out.old.items ++ after_text after.now) }
 {
     match after {
         None => put(out, b"-"),
-        Some((value, rid)) => put_place(alloc, out, value, *rid),
+        Some((value, rid)) => put_place(out, value, *rid),
     }
 }
 
 // Appends a row in parentheses.
-pub fn put_whole_row(alloc: Global, out: &mut Vec<u8>, row: &Row) -> Result<(), Memory>
+pub fn put_whole_row(out: &mut Vec<u8>, row: &Row) -> Result<(), Memory>
     ensures { OnOk result (out.new.items ≡ out.old.items ++ whole_row row.now) }
 {
     put(out, b"(")?;
-    put_row(alloc, out, row)?;
+    put_row(out, row)?;
     put(out, b")")
 }
 
 // Appends a lock of a snapshot.
-pub fn put_lock_text(
-    alloc: Global,
-    out: &mut Vec<u8>,
-    head: &Head,
-    lock: &LockLine,
-) -> Result<(), Memory>
+pub fn put_lock_text(out: &mut Vec<u8>, head: &Head, lock: &LockLine) -> Result<(), Memory>
     ensures { OnOk result (out.new.items ≡ out.old.items ++ lock_text head.now lock.now) }
 {
-    put_name(alloc, out, head, &lock.name)?;
+    put_name(out, head, &lock.name)?;
     put(out, b" ")?;
     put_conn(out, head, lock.conn)?;
     put(out, b" ")?;

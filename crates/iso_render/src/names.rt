@@ -4,7 +4,6 @@ ghost use Rattle.iso_render.specs.Texts.{mode_word, state_word, conn_name, table
 use crate::put::{put, put_number, put_value};
 use iso_modes::{LockState, Mode};
 use iso_types::{Conn, Head, IndexId, Memory, Name, TableId};
-use std::alloc::Global;
 
 // A mode as Db2 names it.
 pub fn word_of(mode: Mode) -> &'static [u8]
@@ -66,7 +65,7 @@ pub fn put_index(out: &mut Vec<u8>, head: &Head, index: IndexId) -> Result<(), M
 }
 
 // Appends a lock name.
-pub fn put_name(alloc: Global, out: &mut Vec<u8>, head: &Head, name: &Name) -> Result<(), Memory>
+pub fn put_name(out: &mut Vec<u8>, head: &Head, name: &Name) -> Result<(), Memory>
     ensures { OnOk result (out.new.items ≡ out.old.items ++ name_text head.now name.now) }
 {
     match name {
@@ -78,13 +77,13 @@ pub fn put_name(alloc: Global, out: &mut Vec<u8>, head: &Head, name: &Name) -> R
             put(out, b"ROW ")?;
             put_table(out, head, *table)?;
             put(out, b" ")?;
-            put_number(alloc, out, u64::from(rid.0))
+            put_number(out, u64::from(rid.0))
         }
         Name::Key(index, value) => {
             put(out, b"KEY ")?;
             put_index(out, head, *index)?;
             put(out, b" ")?;
-            put_value(alloc, out, value)
+            put_value(out, value)
         }
         Name::End(index) => {
             put(out, b"END ")?;

@@ -55,7 +55,7 @@ pub fn write_count(alloc: Global, script: &Script) -> Result<Items<u8>, Memory>
 {
     let mut out = Vec::new(alloc);
     put(&mut out, b"SCRIPT OK ")?;
-    put_number(alloc, &mut out, script.lines.len() as u64)?;
+    put_number(&mut out, script.lines.len() as u64)?;
     put(&mut out, b"\n")?;
     Ok(Items::from_vec(out))
 }

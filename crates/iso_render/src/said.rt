@@ -7,7 +7,6 @@ use crate::names::put_conn;
 use crate::put::{put, put_number};
 use iso_history::Cause;
 use iso_types::{Conn, Head, Memory};
-use std::alloc::Global;
 
 // What a stop names.
 pub fn cause_of(cause: Cause) -> &'static [u8]
@@ -21,16 +20,10 @@ pub fn cause_of(cause: Cause) -> &'static [u8]
 }
 
 // Appends how a connection's line begins: the script line and its name.
-pub fn put_front(
-    alloc: Global,
-    out: &mut Vec<u8>,
-    head: &Head,
-    line: u32,
-    conn: Conn,
-) -> Result<(), Memory>
+pub fn put_front(out: &mut Vec<u8>, head: &Head, line: u32, conn: Conn) -> Result<(), Memory>
     ensures { OnOk result (out.new.items ≡ out.old.items ++ (decimal line ++ codes " " ++ conn_name head.now conn ++ codes " ")) }
 {
-    put_number(alloc, out, u64::from(line))?;
+    put_number(out, u64::from(line))?;
     put(out, b" ")?;
     put_conn(out, head, conn)?;
     put(out, b" ")

@@ -5,7 +5,6 @@ ghost use Rattle.iso_render.specs.Summary.{code_line, code_lines, is_lower, is_o
 
 use crate::put::{put, put_number, put_signed};
 use iso_types::Memory;
-use std::alloc::Global;
 
 /// An answer: its SQLCODE, and the reason of a rollback that nobody asked for, else 0.
 #[derive(Clone, Copy)]
@@ -81,34 +80,34 @@ pub fn note(tallies: &mut Vec<Tally>, answer: &Answer) -> Result<(), Memory>
 }
 
 // Appends the reason behind a blank, where it isn't 0.
-fn put_reason(alloc: Global, out: &mut Vec<u8>, reason: u8) -> Result<(), Memory>
+fn put_reason(out: &mut Vec<u8>, reason: u8) -> Result<(), Memory>
     ensures { OnOk result (out.new.items ≡ out.old.items ++ reason_text reason) }
 {
     if reason == 0 {
         return Ok(());
     }
     put(out, b" ")?;
-    put_number(alloc, out, u64::from(reason))
+    put_number(out, u64::from(reason))
 }
 
 // Appends the line of a code.
-fn put_tally(alloc: Global, out: &mut Vec<u8>, tally: Tally) -> Result<(), Memory>
+fn put_tally(out: &mut Vec<u8>, tally: Tally) -> Result<(), Memory>
     ensures { OnOk result (out.new.items ≡ out.old.items ++ code_line tally) }
 {
     put(out, b"CODE ")?;
-    put_signed(alloc, out, i64::from(tally.answer.code))?;
-    put_reason(alloc, out, tally.answer.reason)?;
+    put_signed(out, i64::from(tally.answer.code))?;
+    put_reason(out, tally.answer.reason)?;
     put(out, b" ")?;
-    put_number(alloc, out, tally.count)?;
+    put_number(out, tally.count)?;
     put(out, b"\n")
 }
 
 /// Appends a line for each code.
-pub fn put_tallies(alloc: Global, out: &mut Vec<u8>, tallies: &[Tally]) -> Result<(), Memory>
+pub fn put_tallies(out: &mut Vec<u8>, tallies: &[Tally]) -> Result<(), Memory>
     ensures { OnOk result (out.new.items ≡ out.old.items ++ code_lines tallies.now) }
 {
     for tally in tallies {
-        put_tally(alloc, out, *tally)?;
+        put_tally(out, *tally)?;
     }
     Ok(())
 }

@@ -115,12 +115,12 @@ fn hear(tallies: &mut Vec<Tally>, act: &Act) -> Result<(), Memory>
 }
 
 // Appends a count under its word.
-fn put_total(alloc: Global, out: &mut Vec<u8>, word: &[u8], count: u64) -> Result<(), Memory>
+fn put_total(out: &mut Vec<u8>, word: &[u8], count: u64) -> Result<(), Memory>
     ensures { OnOk result (out.new.items ≡ out.old.items ++ count_line word.now count) }
 {
     put(out, word)?;
     put(out, b" ")?;
-    put_number(alloc, out, count)?;
+    put_number(out, count)?;
     put(out, b"\n")
 }
 
@@ -129,13 +129,13 @@ fn print(alloc: Global, lines: u64, counts: Counts, tallies: &[Tally]) -> Result
     ensures { IfOk result (λ text. text ≡ summed lines counts tallies.now) }
 {
     let mut out = Vec::new(alloc);
-    put_total(alloc, &mut out, b"LINES", lines)?;
-    put_total(alloc, &mut out, b"REPLIES", counts.answers)?;
-    put_total(alloc, &mut out, b"BUSY", counts.busy)?;
-    put_tallies(alloc, &mut out, tallies)?;
-    put_total(alloc, &mut out, b"WAITS", counts.waits)?;
-    put_total(alloc, &mut out, b"ESCALATIONS", counts.escalations)?;
-    put_total(alloc, &mut out, b"VICTIMS", counts.victims)?;
+    put_total(&mut out, b"LINES", lines)?;
+    put_total(&mut out, b"REPLIES", counts.answers)?;
+    put_total(&mut out, b"BUSY", counts.busy)?;
+    put_tallies(&mut out, tallies)?;
+    put_total(&mut out, b"WAITS", counts.waits)?;
+    put_total(&mut out, b"ESCALATIONS", counts.escalations)?;
+    put_total(&mut out, b"VICTIMS", counts.victims)?;
     put(&mut out, b"END\n")?;
     Ok(Items::from_vec(out))
 }

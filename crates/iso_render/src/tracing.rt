@@ -56,31 +56,25 @@ fn put_maker(out: &mut Vec<u8>, head: &Head, who: Who) -> Result<(), Memory>
 }
 
 // Appends the fields of an act.
-fn put_fields(alloc: Global, out: &mut Vec<u8>, head: &Head, act: &Act) -> Result<(), Memory>
+fn put_fields(out: &mut Vec<u8>, head: &Head, act: &Act) -> Result<(), Memory>
     ensures { OnOk result (out.new.items ≡ out.old.items ++ field_text head.now act.now) }
 {
-    put_paced(alloc, out, head, act)?;
-    put_sought(alloc, out, head, act)?;
-    put_changed(alloc, out, head, act)?;
-    put_answered(alloc, out, act)
+    put_paced(out, head, act)?;
+    put_sought(out, head, act)?;
+    put_changed(out, head, act)?;
+    put_answered(out, act)
 }
 
 // Appends the line of an entry.
-fn put_entry(
-    alloc: Global,
-    out: &mut Vec<u8>,
-    head: &Head,
-    place: u64,
-    entry: &Entry,
-) -> Result<(), Memory>
+fn put_entry(out: &mut Vec<u8>, head: &Head, place: u64, entry: &Entry) -> Result<(), Memory>
     ensures { OnOk result (out.new.items ≡ out.old.items ++ trace_line head.now place entry.now) }
 {
-    put_number(alloc, out, place)?;
+    put_number(out, place)?;
     put(out, b" ")?;
     put_maker(out, head, entry.who)?;
     put(out, b" ")?;
     put(out, act_of(&entry.act))?;
-    put_fields(alloc, out, head, &entry.act)?;
+    put_fields(out, head, &entry.act)?;
     put(out, b"\n")
 }
 
@@ -90,11 +84,11 @@ fn print(alloc: Global, script: &Script, entries: &[Entry]) -> Result<Items<u8>,
 {
     let mut out = Vec::new(alloc);
     put(&mut out, b"TRACE ")?;
-    put_number(alloc, &mut out, entries.len() as u64)?;
+    put_number(&mut out, entries.len() as u64)?;
     put(&mut out, b"\n")?;
     let mut place = 0;
     for entry in entries {
-        put_entry(alloc, &mut out, &script.head, place, entry)?;
+        put_entry(&mut out, &script.head, place, entry)?;
         place += 1;
     }
     Ok(Items::from_vec(out))

@@ -14,10 +14,10 @@ pub returns-then-is_slot-clause-shows : goal.returns-then-is_slot-clause-shows
 returns-then-is_slot-clause-shows c =
     let p = c.args.parts.now in
     let row = shown (world_of p) c.args.conn c.args.table c.args.rid c.args.want in
-    still-ok c.look_at.result
+    still-ok c.look_slot.result
     (answer_by (content_of p) c.args.conn c.args.table c.args.rid c.args.want (looks p.head (world_of p) c.args.conn c.args.table c.args.rid c.args.want)) row
     (by-shows (content_of p) c.requires.stands.stands c.args.conn c.args.table c.args.rid c.args.want
-    (looks p.head (world_of p) c.args.conn c.args.table c.args.rid c.args.want)) c.look_at.ensures.answer
+    (looks p.head (world_of p) c.args.conn c.args.table c.args.rid c.args.want)) c.look_slot.ensures.answer
 
 pub returns-then-is_slot-clause-full : goal.returns-then-is_slot-clause-full
 returns-then-is_slot-clause-full c =
@@ -26,4 +26,4 @@ returns-then-is_slot-clause-full c =
     λ e. subst (λ (b : Bool). is_full p.head w (by_agent c.args.conn
     (if b then look_by p.head w c.args.conn c.args.table c.args.rid c.args.want (looks p.head w c.args.conn c.args.table c.args.rid c.args.want)
     else ScanEnd c.args.table (slots w c.args.table))) ≡ true)
-    (sym c.if-is_slot.true ∙ c.is_slot.ensures) (c.look_at.ensures.full e)
+    (sym c.if-is_slot.true ∙ c.is_slot.ensures) (c.look_slot.ensures.full e)
